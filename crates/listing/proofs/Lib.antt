@@ -1,0 +1,5 @@
+pub mod Digits
+pub mod Cuts
+pub mod Surveys
+pub mod Spelled
+pub mod Words

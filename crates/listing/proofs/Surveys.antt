@@ -1,0 +1,65 @@
+-- Looking through a list of numbers, piece by piece.
+use mathlib.Core.Path.{_≡_, refl, sym, ap, _∙_}
+use mathlib.Core.Bool.{Bool, true, false, cond, _&&_}
+use mathlib.Core.List.{List, [], _∷_, map}
+use Prim.Native.Nat.{ℕ, _+_, _-_, _^_, _<_, _≤_, min, max}
+use native.Mathlib.Omega.{arith}
+use lib.ListN.{length}
+use Rattle.std.specs.declared.option.Option.{Option}
+use Rattle.std.specs.declared.option.Option.the-variants.{Some, None}
+use Rattle.std.proofs.shelf.Tests.{cases-bool}
+use Rattle.listing.specs.declared.list.Survey.{Survey}
+use Rattle.listing.specs.Numeral.{numeral, valueOf}
+use Rattle.listing.specs.Pieces.{upTo, past, pieces, allNumerals, largest}
+use Rattle.listing.specs.Survey.{surveyed}
+use Rattle.listing.proofs.Cuts.{pieces-step, pieces-more, pieces-last}
+
+abbrev pub top : ℕ
+top = 4294967295
+
+-- the pieces that are left, after what was seen of the list
+abbrev pub surveyAfter : Survey → List (List ℕ) → Option Survey
+surveyAfter s ps = cond (allNumerals ps) (Some (record { count = s .count + length ps; largest = max (s .largest) (min (largest (map valueOf ps)) top) })) None
+
+pub survey-start : (ps : List (List ℕ)) → surveyAfter (record { count = 0; largest = 0 }) ps ≡ surveyed ps
+survey-start ps =
+    let a : 0 + length ps ≡ length ps = omega arith in
+    let b : max 0 (min (largest (map valueOf ps)) top) ≡ min (largest (map valueOf ps)) top = omega arith in
+    rw (a, b)
+
+survey-piece : (s : Survey) (p : List ℕ) (ps : List (List ℕ)) (n : ℕ) → numeral p ≡ true → n ≡ min (valueOf p) top
+    → surveyAfter (record { count = s .count + 1; largest = max (s .largest) n }) ps ≡ surveyAfter s (p ∷ ps)
+survey-piece s p ps n q e =
+    let a : s .count + 1 + length ps ≡ s .count + length (p ∷ ps) = omega arith in
+    let b : max (max (s .largest) n) (min (largest (map valueOf ps)) top) ≡ max (s .largest) (min (max (valueOf p) (largest (map valueOf ps))) top) = omega (arith, e) in
+    rw (a, b, q)
+
+some-cond : {A : Type 0} (b : Bool) (x n : A) → Some n ≡ cond b (Some x) None → (b ≡ true) × (n ≡ x)
+some-cond true x n e = (refl, cc)
+some-cond false x n e = let z : _≡_ {A = ℕ} 0 1 = cc in absurd (omega arith)
+
+none-cond : {A : Type 0} (b : Bool) (x : A) → None ≡ cond b (Some x) None → b ≡ false
+none-cond true x e = let z : _≡_ {A = ℕ} 0 1 = cc in absurd (omega arith)
+none-cond false x e = refl
+
+pub survey-more : (s : Survey) (xs p ys : List ℕ) (n : ℕ) → p ≡ upTo 44 xs → Some ys ≡ past 44 xs → Some n ≡ cond (numeral p) (Some (min (valueOf p) top)) None
+    → surveyAfter (record { count = s .count + 1; largest = max (s .largest) n }) (pieces 44 ys) ≡ surveyAfter s (pieces 44 xs)
+survey-more s xs p ys n e f g =
+    let h = some-cond (numeral p) (min (valueOf p) top) n g in
+    survey-piece s p (pieces 44 ys) n (h .0) (h .1) ∙ ap (surveyAfter s) (sym (pieces-more 44 xs p ys e f))
+
+pub survey-last : (s : Survey) (xs p : List ℕ) (n : ℕ) → p ≡ upTo 44 xs → None ≡ past 44 xs → Some n ≡ cond (numeral p) (Some (min (valueOf p) top)) None
+    → Some (record { count = s .count + 1; largest = max (s .largest) n }) ≡ surveyAfter s (pieces 44 xs)
+survey-last s xs p n e f g =
+    let h = some-cond (numeral p) (min (valueOf p) top) n g in
+    let a : s .count + 1 ≡ s .count + 1 + 0 = omega arith in
+    let b : max (s .largest) n ≡ max (max (s .largest) n) 0 = omega arith in
+    let start : Some (record { count = s .count + 1; largest = max (s .largest) n }) ≡ surveyAfter (record { count = s .count + 1; largest = max (s .largest) n }) [] =
+      ap (λ k. Some (record { count = k; largest = max (s .largest) n })) a ∙ ap (λ k. Some (record { count = s .count + 1 + 0; largest = k })) b in
+    start ∙ survey-piece s p [] n (h .0) (h .1) ∙ ap (surveyAfter s) (sym (pieces-last 44 xs p e f))
+
+pub survey-not : (s : Survey) (xs p : List ℕ) → p ≡ upTo 44 xs → None ≡ cond (numeral p) (Some (min (valueOf p) top)) None
+    → None ≡ surveyAfter s (pieces 44 xs)
+survey-not s xs p e g =
+    let h = none-cond (numeral p) (min (valueOf p) top) g in
+    rw (pieces-step 44 xs, sym e, h)

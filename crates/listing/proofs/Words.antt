@@ -1,0 +1,38 @@
+-- The words of the sharing rules.
+use mathlib.Core.Path.{_≡_, refl, sym, ap, ap₂, _∙_}
+use mathlib.Core.Bool.{Bool, true, false, cond, _&&_}
+use mathlib.Core.List.{List, [], _∷_}
+use mathlib.Core.Logic.{inl, inr, ⊎-elim}
+use Prim.Native.Nat.{ℕ}
+use native.Mathlib.Omega.{arith}
+use lib.Dec.{eqb}
+use Rattle.std.proofs.shelf.Tests.{eqb-true, and-parts, cases-bool}
+use Rattle.std.specs.declared.option.Option.{Option}
+use Rattle.std.specs.declared.option.Option.the-variants.{Some, None}
+use Rattle.listing.specs.declared.settings.SharingRule.{SharingRule}
+use Rattle.listing.specs.declared.settings.SharingRule.the-variants.{New, Old, Both}
+use Rattle.listing.specs.Rules.{same, wordOf, ruleNamed}
+use Rattle.listing.specs.Lines.{Named}
+
+pub same-is : (xs ys : List ℕ) → same xs ys ≡ true → xs ≡ ys
+same-is [] [] e = refl
+same-is [] (y ∷ ys) e = let z : _≡_ {A = ℕ} 0 1 = cc in absurd (omega arith)
+same-is (x ∷ xs) [] e = let z : _≡_ {A = ℕ} 0 1 = cc in absurd (omega arith)
+same-is (x ∷ xs) (y ∷ ys) e =
+    let p = and-parts (eqb x y) (same xs ys) e in
+    let a : x ≡ y = eqb-true x y (p .0) in
+    let b : xs ≡ ys = same-is xs ys (p .1) in
+    cc
+
+same-not : (xs ys : List ℕ) → (xs ≡ ys → ⊥) → same xs ys ≡ false
+same-not xs ys f = ⊎-elim (λ e. absurd (f (same-is xs ys e))) (λ e. e) (cases-bool (same xs ys))
+
+pub named-is : (text : List ℕ) (r : Option SharingRule) → Named text r → r ≡ ruleNamed text
+named-is text (Some New) e = sym (ap ruleNamed e)
+named-is text (Some Old) e = sym (ap ruleNamed e)
+named-is text (Some Both) e = sym (ap ruleNamed e)
+named-is text None f =
+    let a = same-not text (wordOf New) (f New) in
+    let b = same-not text (wordOf Old) (f Old) in
+    let c = same-not text (wordOf Both) (f Both) in
+    rw (a, b, c)

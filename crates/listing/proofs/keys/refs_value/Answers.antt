@@ -1,0 +1,9 @@
+use native.Mathlib.Omega.{arith}
+use borrow.Author.Needs.{needs}
+use lib.Chars.{codes}
+use Rattle.std.proofs.shelf.Tests.{ltb-false}
+use Rattle.listing.proofs.Spelled.{behind-key}
+use Rattle.listing.proofs.keys.refs_value.Needs as need
+
+pub returns-in-114 : need.returns-in-114
+returns-in-114 c = behind-key (codes "refs=") (c .args .line .now) (omega (arith, ltb-false)) (search needs)
