@@ -7,10 +7,15 @@ use native.Mathlib.Omega.{arith}
 use lib.ListN.{length}
 use Rattle.std.specs.declared.option.Option.{Option}
 use Rattle.std.specs.declared.option.Option.the-variants.{Some, None}
-use Rattle.std.proofs.shelf.Tests.{cases-bool}
+use lib.Dec.{leb}
+use Rattle.std.proofs.shelf.Lists.{length-map}
+use Rattle.std.proofs.shelf.Tests.{lt-leb, le-leb, and-right, and-from}
+use Rattle.std.specs.declared.result.Result.the-variants.{Ok, Err}
+use Rattle.refusal.specs.declared.Refusal.the-variants.{Form, Range, Stranger}
+use Rattle.listing.specs.Lines.{counted}
 use Rattle.listing.specs.declared.list.Survey.{Survey}
 use Rattle.listing.specs.Numeral.{numeral, valueOf}
-use Rattle.listing.specs.Pieces.{upTo, past, pieces, allNumerals, largest}
+use Rattle.listing.specs.Pieces.{upTo, past, pieces, listed, allNumerals, numerals, numbers, largest}
 use Rattle.listing.specs.Survey.{surveyed}
 use Rattle.listing.proofs.Cuts.{pieces-step, pieces-more, pieces-last}
 
@@ -63,3 +68,50 @@ pub survey-not : (s : Survey) (xs p : List ℕ) → p ≡ upTo 44 xs → None �
 survey-not s xs p e g =
     let h = none-cond (numeral p) (min (valueOf p) top) g in
     rw (pieces-step 44 xs, sym e, h)
+
+-- what a survey says of the list
+survey-facts : (v : List ℕ) (s : Survey) → Some s ≡ surveyed (listed v) → (numerals v ≡ true) × (s .count ≡ length (numbers v)) × (s .largest ≡ min (largest (numbers v)) top)
+survey-facts v s e =
+    let h = some-cond (numerals v) (record { count = length (listed v); largest = min (largest (numbers v)) top }) s e in
+    (h .0, ap (λ t. t .count) (h .1) ∙ sym (length-map (listed v) valueOf), ap (λ t. t .largest) (h .1))
+
+pub count-form : (b m o : ℕ) (v : List ℕ) → None ≡ surveyed (listed v) → Err Form ≡ counted b m o v
+count-form b m o v e =
+    let h = none-cond (numerals v) (record { count = length (listed v); largest = min (largest (numbers v)) top }) e in
+    rw h
+
+pub count-large : (b m o : ℕ) (v : List ℕ) (s : Survey) → Some s ≡ surveyed (listed v) → 65535 < s .largest → Err Range ≡ counted b m o v
+count-large b m o v s e l =
+    let h = survey-facts v s e in
+    let k : 65535 < largest (numbers v) = omega arith in
+    let q = lt-leb (largest (numbers v)) 65535 k in
+    rw (h .0, q)
+
+pub count-many : (b m o n : ℕ) (v : List ℕ) (s : Survey) → Some s ≡ surveyed (listed v) → n ≡ min (b + s .count) (2 ^ 64 - 1) → m < n → Err Range ≡ counted b m o v
+count-many b m o n v s e f l =
+    let h = survey-facts v s e in
+    let k : m < b + length (numbers v) = omega arith in
+    let q = and-right (leb (largest (numbers v)) 65535) _ (lt-leb (b + length (numbers v)) m k) in
+    rw (h .0, q)
+
+count-bounded : (b m n : ℕ) (v : List ℕ) (s : Survey) → Some s ≡ surveyed (listed v) → s .largest ≤ 65535 → n ≡ min (b + s .count) (2 ^ 64 - 1) → n ≤ m → m < 2 ^ 32
+    → (leb (largest (numbers v)) 65535 && leb (b + length (numbers v)) m) ≡ true
+count-bounded b m n v s e f g l w =
+    let h = survey-facts v s e in
+    let a : largest (numbers v) ≤ 65535 = omega (arith, h .2) in
+    let d : b + length (numbers v) ≤ m = omega (arith, h .1) in
+    and-from _ _ (le-leb _ _ a) (le-leb _ _ d)
+
+pub count-stranger : (b m o n : ℕ) (v : List ℕ) (s : Survey) → Some s ≡ surveyed (listed v) → s .largest ≤ 65535 → n ≡ min (b + s .count) (2 ^ 64 - 1) → n ≤ m → m < 2 ^ 32
+    → o < s .largest → Err Stranger ≡ counted b m o v
+count-stranger b m o n v s e f g l w t =
+    let h = survey-facts v s e in
+    let k : o < largest (numbers v) = omega (arith, h .2) in
+    rw (h .0, count-bounded b m n v s e f g l w, lt-leb (largest (numbers v)) o k)
+
+pub count-right : (b m o n : ℕ) (v : List ℕ) (s : Survey) → Some s ≡ surveyed (listed v) → s .largest ≤ 65535 → n ≡ min (b + s .count) (2 ^ 64 - 1) → n ≤ m → m < 2 ^ 32
+    → s .largest ≤ o → Ok (s .count) ≡ counted b m o v
+count-right b m o n v s e f g l w t =
+    let h = survey-facts v s e in
+    let k : largest (numbers v) ≤ o = omega (arith, h .2) in
+    rw (h .0, count-bounded b m n v s e f g l w, le-leb (largest (numbers v)) o k, h .1)

@@ -75,3 +75,12 @@ judgeFrom k n (line ∷ next ∷ more) = then (onLine n (judgeLine k line)) (λ 
 
 abbrev pub judge : List ℕ → Result (Heap × Settings) Fault
 judge text = judgeFrom Start 1 (linesOf text)
+
+-- the text from line n on, given what the lines before say
+abbrev pub judgeText : Before → ℕ → List ℕ → Result (Heap × Settings) Fault
+judgeText k n text = judgeFrom k n (linesOf text)
+
+-- what a line says, where a value is read of it
+abbrev pub saying : {A : Type 0} → (A → Before) → Result A Refusal → Result Before Refusal
+saying f (Ok x) = Ok (f x)
+saying f (Err e) = Err e

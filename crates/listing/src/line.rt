@@ -1,7 +1,9 @@
 ghost use mathlib.Core.Path.{_≡_};
 ghost use Rattle.std.specs.Options.{mapped};
-ghost use Rattle.listing.specs.Lines.{numbered, Named, ruled, surveyedIn};
-use crate::list::Survey;
+ghost use Rattle.std.specs.Results.{Cases};
+ghost use Rattle.std.specs.declared.option.Option.the-variants.{Some};
+ghost use Rattle.std.specs.declared.result.Result.the-variants.{Ok, Err};
+ghost use Rattle.listing.specs.Lines.{numbered, Named, ruled, counted, countedIn};
 use crate::list::survey_list;
 use crate::number::number;
 use crate::settings::SharingRule;
@@ -36,10 +38,32 @@ pub fn rule_in(value: Option<&[u8]>) -> Result<SharingRule, Refusal>
     rule_named(text).ok_or(Refusal::Form)
 }
 
-// What there is to know of the list that is a line's value before its numbers are read.
-pub fn list_in(value: Option<&[u8]>) -> Result<Survey, Refusal>
-    ensures { λ r. ⌜ r ≡ surveyedIn (mapped now (value .entry)) ⌝ }
+// How many numbers a list has: with those before at most `most`, each at most the number of objects.
+fn count_in(text: &[u8], before: usize, most: u32, objects: u32) -> Result<usize, Refusal>
+    ensures { λ r. ⌜ r ≡ counted before most objects (now (text .entry)) ⌝ }
+{
+    let Some(list) = survey_list(text) else {
+        return Err(Refusal::Form);
+    };
+    let total = before.saturating_add(list.count);
+    if list.largest > 65535 || total > most as usize {
+        return Err(Refusal::Range);
+    }
+    if list.largest > objects { Err(Refusal::Stranger) } else { Ok(list.count) }
+}
+
+// A list of numbers in text, and how many there are.
+#[derive(Clone, Copy)]
+pub struct NumberList<'a> {
+    pub text: &'a [u8],
+    pub count: usize,
+}
+
+// The list of numbers that is a line's value.
+pub fn list_in(value: Option<&[u8]>, before: usize, most: u32, objects: u32) -> Result<NumberList<'_>, Refusal>
+    ensures { λ r. ⌜ Cases r (λ l. (mapped now (value .entry) ≡ Some (now (l .text))) × (countedIn before most objects (mapped now (value .entry)) ≡ Ok (l .count))) (λ e. countedIn before most objects (mapped now (value .entry)) ≡ Err e) ⌝ }
 {
     let text = value.ok_or(Refusal::Form)?;
-    survey_list(text).ok_or(Refusal::Form)
+    let count = count_in(text, before, most, objects)?;
+    Ok(NumberList { text, count })
 }
