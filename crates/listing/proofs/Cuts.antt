@@ -54,3 +54,10 @@ past-shorter s (b ∷ bs) ys e =
     elim (eqb b s) as (λ v. cond v (Some bs) (past s bs) ≡ Some ys → length ys < length (b ∷ bs))
     [ true ↦ (λ q. let z : bs ≡ ys = cc in rw (sym z) (omega arith)) | false ↦ (λ q. let h = past-shorter s bs ys q in omega arith) ]
     e
+
+pub upTo-none : (s : ℕ) (xs : List ℕ) → past s xs ≡ None → upTo s xs ≡ xs
+upTo-none s [] e = refl
+upTo-none s (b ∷ bs) e =
+    elim (eqb b s) as (λ v. cond v (Some bs) (past s bs) ≡ None → cond v [] (b ∷ upTo s bs) ≡ b ∷ bs)
+    [ true ↦ (λ q. let z : _≡_ {A = ℕ} 0 1 = cc in absurd (omega arith)) | false ↦ (λ q. ap (λ ys. b ∷ ys) (upTo-none s bs q)) ]
+    e

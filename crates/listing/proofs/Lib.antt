@@ -3,3 +3,4 @@ pub mod Cuts
 pub mod Surveys
 pub mod Spelled
 pub mod Words
+pub mod Stepping

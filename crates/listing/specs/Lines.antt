@@ -9,17 +9,33 @@ use Rattle.std.specs.declared.option.Option.{Option}
 use Rattle.std.specs.declared.option.Option.the-variants.{Some, None}
 use Rattle.std.specs.declared.result.Result.{Result}
 use Rattle.std.specs.declared.result.Result.the-variants.{Ok, Err}
+use Rattle.refusal.specs.declared.Fault.{Fault}
 use Rattle.refusal.specs.declared.Refusal.{Refusal}
-use Rattle.refusal.specs.declared.Refusal.the-variants.{Form, Range, Stranger}
+use Rattle.refusal.specs.declared.Refusal.the-variants.{Form, Range, Overlap, Stranger}
+use Rattle.refusal.specs.Table.{fault}
 use Rattle.listing.specs.declared.settings.SharingRule.{SharingRule}
 use Rattle.listing.specs.Numeral.{numeral, valueOf, within}
-use Rattle.listing.specs.Pieces.{numerals, numbers, largest}
+use Rattle.listing.specs.Pieces.{upTo, past, numerals, numbers, largest}
+use Rattle.heap.specs.Heap.{sectionsOf}
 use Rattle.listing.specs.Rules.{wordOf, ruleNamed}
+use Rattle.listing.specs.Judge.{then, onLine}
 
 -- one number between two bounds
 abbrev pub numbered : ℕ → ℕ → Option (List ℕ) → Result ℕ Refusal
 numbered low high None = Err Form
 numbered low high (Some v) = cond (numeral v) (cond (within low high (valueOf v)) (Ok (valueOf v)) (Err Range)) (Err Form)
+
+-- a width: it cuts the cells into at most 64 sections
+abbrev pub widthIn : ℕ → Option (List ℕ) → Result ℕ Refusal
+widthIn cells v = then (numbered 1 65535 v) (λ w. cond (leb (sectionsOf cells w) 64) (Ok w) (Err Range))
+
+-- an object's start, at or after the end of the one before
+abbrev pub atIn : ℕ → Option (List ℕ) → Result ℕ Refusal
+atIn end v = then (numbered 0 65535 v) (λ a. cond (leb end a) (Ok a) (Err Overlap))
+
+-- an object's length: it ends within the heap
+abbrev pub lenIn : ℕ → ℕ → Option (List ℕ) → Result ℕ Refusal
+lenIn at cells v = then (numbered 1 65535 v) (λ l. cond (leb (at + l) cells) (Ok l) (Err Overlap))
 
 -- the rule whose word the text is, if any
 abbrev pub Named : List ℕ → Option SharingRule → Type 0
@@ -45,6 +61,19 @@ counted before most objects v =
       (Err Range))
     (Err Form)
 
-abbrev pub countedIn : ℕ → ℕ → ℕ → Option (List ℕ) → Result ℕ Refusal
-countedIn before most objects None = Err Form
-countedIn before most objects (Some v) = counted before most objects v
+-- that number, and the text of the list
+abbrev pub listIn : ℕ → ℕ → ℕ → Option (List ℕ) → Result (ℕ × List ℕ) Refusal
+listIn before most objects None = Err Form
+listIn before most objects (Some v) = then (counted before most objects v) (λ n. Ok (n, v))
+
+-- line n, closed by byte 10, and the text behind it
+abbrev pub lineBy : ℕ → List ℕ → Option (List ℕ) → Result (List ℕ × List ℕ) Fault
+lineBy n front None = Err (fault Form n)
+lineBy n front (Some rest) = Ok (front, rest)
+
+abbrev pub lineOf : ℕ → List ℕ → Result (List ℕ × List ℕ) Fault
+lineOf n text = lineBy n (upTo 10 text) (past 10 text)
+
+-- what is read of line n, and the text behind it
+abbrev pub readLine : {A : Type 0} → ℕ → (List ℕ → Result A Refusal) → List ℕ → Result (A × List ℕ) Fault
+readLine n f text = then (lineOf n text) (λ p. then (onLine n (f (p .0))) (λ x. Ok (x, p .1)))

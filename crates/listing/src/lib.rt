@@ -4,5 +4,6 @@ pub mod number;
 pub mod list;
 pub mod keys;
 pub mod line;
+pub mod lines;
 pub use settings::Settings;
 pub use settings::SharingRule;

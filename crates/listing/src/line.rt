@@ -1,9 +1,10 @@
 ghost use mathlib.Core.Path.{_≡_};
+ghost use Prim.Native.Nat.{ℕ, _≤_};
 ghost use Rattle.std.specs.Options.{mapped};
+ghost use Rattle.std.specs.Vec.{made};
 ghost use Rattle.std.specs.Results.{Cases};
-ghost use Rattle.std.specs.declared.option.Option.the-variants.{Some};
 ghost use Rattle.std.specs.declared.result.Result.the-variants.{Ok, Err};
-ghost use Rattle.listing.specs.Lines.{numbered, Named, ruled, counted, countedIn};
+ghost use Rattle.listing.specs.Lines.{numbered, widthIn, atIn, lenIn, Named, ruled, counted, listIn};
 use crate::list::survey_list;
 use crate::number::number;
 use crate::settings::SharingRule;
@@ -11,11 +12,41 @@ use refusal::Refusal;
 
 // The number between two bounds that is a line's value.
 pub fn number_in(value: Option<&[u8]>, low: u16, high: u16) -> Result<u32, Refusal>
-    ensures { λ r. ⌜ r ≡ numbered low high (mapped now (value .entry)) ⌝ }
+    ensures value { λ r. ⌜ r ≡ numbered low high (mapped now (value .entry)) ⌝ }
+    ensures bounds { λ r. ⌜ made r (λ n. (low ≤ n) × (n ≤ high)) ⌝ }
 {
     let text = value.ok_or(Refusal::Form)?;
     let n = number(text).ok_or(Refusal::Form)?;
     if u32::from(low) <= n && n <= u32::from(high) { Ok(n) } else { Err(Refusal::Range) }
+}
+
+// The width that is a line's value: it cuts the cells into at most 64 sections.
+pub fn width_in(value: Option<&[u8]>, cells: u32) -> Result<u32, Refusal>
+    ensures value { λ r. ⌜ r ≡ widthIn cells (mapped now (value .entry)) ⌝ }
+    ensures bounds { λ r. ⌜ made r (λ n. (1 ≤ n) × (n ≤ 65535)) ⌝ }
+{
+    let width = number_in(value, 1, 65535)?;
+    let sections = (u64::from(cells) + (u64::from(width) - 1)) / u64::from(width);
+    if sections <= 64 { Ok(width) } else { Err(Refusal::Range) }
+}
+
+// The start of an object that is a line's value, at or after the end of the object before.
+pub fn at_in(value: Option<&[u8]>, end: u32) -> Result<u32, Refusal>
+    ensures value { λ r. ⌜ r ≡ atIn end (mapped now (value .entry)) ⌝ }
+    ensures bounds { λ r. ⌜ made r (λ n. n ≤ 65535) ⌝ }
+{
+    let at = number_in(value, 0, 65535)?;
+    if end <= at { Ok(at) } else { Err(Refusal::Overlap) }
+}
+
+// The length of an object that is a line's value: the object ends within the heap.
+pub fn len_in(value: Option<&[u8]>, at: u32, cells: u32) -> Result<u32, Refusal>
+    ensures value { λ r. ⌜ r ≡ lenIn at cells (mapped now (value .entry)) ⌝ }
+    ensures bounds { λ r. ⌜ made r (λ n. (1 ≤ n) × (n ≤ 65535)) ⌝ }
+{
+    let len = number_in(value, 1, 65535)?;
+    let end = u64::from(at) + u64::from(len);
+    if end <= u64::from(cells) { Ok(len) } else { Err(Refusal::Overlap) }
 }
 
 // The sharing rule that a word names.
@@ -61,7 +92,7 @@ pub struct NumberList<'a> {
 
 // The list of numbers that is a line's value.
 pub fn list_in(value: Option<&[u8]>, before: usize, most: u32, objects: u32) -> Result<NumberList<'_>, Refusal>
-    ensures { λ r. ⌜ Cases r (λ l. (mapped now (value .entry) ≡ Some (now (l .text))) × (countedIn before most objects (mapped now (value .entry)) ≡ Ok (l .count))) (λ e. countedIn before most objects (mapped now (value .entry)) ≡ Err e) ⌝ }
+    ensures { λ r. ⌜ Cases r (λ l. listIn before most objects (mapped now (value .entry)) ≡ Ok (l .count, now (l .text))) (λ e. listIn before most objects (mapped now (value .entry)) ≡ Err e) ⌝ }
 {
     let text = value.ok_or(Refusal::Form)?;
     let count = count_in(text, before, most, objects)?;
