@@ -3,6 +3,7 @@ use mathlib.Core.Path.{_≡_}
 use mathlib.Core.List.{List, [], _∷_}
 use mathlib.Core.Bool.{Bool, cond, _&&_}
 use Prim.Native.Nat.{ℕ, _+_}
+use lib.Chars.{codes}
 use lib.Dec.{leb}
 use lib.ListN.{length}
 use Rattle.std.specs.declared.option.Option.{Option}
@@ -14,11 +15,12 @@ use Rattle.refusal.specs.declared.Refusal.{Refusal}
 use Rattle.refusal.specs.declared.Refusal.the-variants.{Form, Range, Overlap, Stranger}
 use Rattle.refusal.specs.Table.{fault}
 use Rattle.listing.specs.declared.settings.SharingRule.{SharingRule}
+use Rattle.listing.specs.declared.settings.Header.{Header}
 use Rattle.listing.specs.Numeral.{numeral, valueOf, within}
 use Rattle.listing.specs.Pieces.{upTo, past, numerals, numbers, largest}
 use Rattle.heap.specs.Heap.{sectionsOf}
 use Rattle.listing.specs.Rules.{wordOf, ruleNamed}
-use Rattle.listing.specs.Judge.{then, onLine}
+use Rattle.listing.specs.Judge.{then, onLine, behind}
 
 -- one number between two bounds
 abbrev pub numbered : ℕ → ℕ → Option (List ℕ) → Result ℕ Refusal
@@ -77,3 +79,49 @@ lineOf n text = lineBy n (upTo 10 text) (past 10 text)
 -- what is read of line n, and the text behind it
 abbrev pub readLine : {A : Type 0} → ℕ → (List ℕ → Result A Refusal) → List ℕ → Result (A × List ℕ) Fault
 readLine n f text = then (lineOf n text) (λ p. then (onLine n (f (p .0))) (λ x. Ok (x, p .1)))
+
+-- each line of a listing, and the text behind it
+abbrev pub readCells : List ℕ → Result (ℕ × List ℕ) Fault
+readCells text = readLine 1 (λ l. numbered 1 65535 (behind (codes "cells=") l)) text
+
+abbrev pub readWidth : ℕ → List ℕ → Result (ℕ × List ℕ) Fault
+readWidth cells text = readLine 2 (λ l. widthIn cells (behind (codes "width=") l)) text
+
+abbrev pub readMarkers : List ℕ → Result (ℕ × List ℕ) Fault
+readMarkers text = readLine 3 (λ l. numbered 1 16 (behind (codes "markers=") l)) text
+
+abbrev pub readShare : List ℕ → Result (SharingRule × List ℕ) Fault
+readShare text = readLine 4 (λ l. ruled (behind (codes "share=") l)) text
+
+abbrev pub readObjects : List ℕ → Result (ℕ × List ℕ) Fault
+readObjects text = readLine 5 (λ l. numbered 0 65535 (behind (codes "objects=") l)) text
+
+abbrev pub readAt : ℕ → ℕ → List ℕ → Result (ℕ × List ℕ) Fault
+readAt n end text = readLine n (λ l. atIn end (behind (codes "at=") l)) text
+
+abbrev pub readLen : ℕ → ℕ → ℕ → List ℕ → Result (ℕ × List ℕ) Fault
+readLen n at cells text = readLine n (λ l. lenIn at cells (behind (codes "len=") l)) text
+
+abbrev pub readRefs : ℕ → ℕ → ℕ → List ℕ → Result ((ℕ × List ℕ) × List ℕ) Fault
+readRefs n before objects text = readLine n (λ l. listIn before 262144 objects (behind (codes "refs=") l)) text
+
+abbrev pub readRoots : ℕ → ℕ → List ℕ → Result ((ℕ × List ℕ) × List ℕ) Fault
+readRoots n objects text = readLine n (λ l. listIn 0 4096 objects (behind (codes "roots=") l)) text
+
+-- the first five lines
+abbrev pub readHeader : List ℕ → Result (Header × List ℕ) Fault
+readHeader text =
+    then (readCells text) (λ c.
+    then (readWidth (c .0) (c .1)) (λ w.
+    then (readMarkers (w .1)) (λ m.
+    then (readShare (m .1)) (λ s.
+    then (readObjects (s .1)) (λ o.
+    Ok (record { cells = c .0; width = w .0; markers = m .0; share = s .0; objects = o .0 }, o .1))))))
+
+-- the three lines of an object, from line n on: its start, its length, and its references with their number
+abbrev pub readObject : Header → ℕ → ℕ → ℕ → List ℕ → Result ((ℕ × ℕ × (ℕ × List ℕ)) × List ℕ) Fault
+readObject header end before n text =
+    then (readAt n end text) (λ a.
+    then (readLen (n + 1) (a .0) (header .cells) (a .1)) (λ l.
+    then (readRefs (n + 2) before (header .objects) (l .1)) (λ r.
+    Ok ((a .0, l .0, r .0), r .1))))

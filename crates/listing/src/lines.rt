@@ -1,10 +1,10 @@
 ghost use mathlib.Core.Path.{_≡_};
 ghost use Prim.Native.Nat.{ℕ, _+_, _≤_};
-ghost use lib.Chars.{codes};
 ghost use Rattle.std.specs.Results.{Cases};
+ghost use Rattle.std.specs.Vec.{made};
 ghost use Rattle.std.specs.declared.result.Result.the-variants.{Ok, Err};
-ghost use Rattle.listing.specs.Judge.{onLine, behind};
-ghost use Rattle.listing.specs.Lines.{lineOf, readLine, numbered, widthIn, atIn, lenIn, ruled, listIn};
+ghost use Rattle.listing.specs.Judge.{onLine};
+ghost use Rattle.listing.specs.Lines.{lineOf, readCells, readWidth, readMarkers, readShare, readObjects, readAt, readLen, readRefs, readRoots, readHeader, readObject};
 use crate::keys::at_value;
 use crate::keys::cells_value;
 use crate::keys::len_value;
@@ -22,6 +22,7 @@ use crate::line::number_in;
 use crate::line::rule_in;
 use crate::line::width_in;
 use crate::list::cut;
+use crate::settings::Header;
 use crate::settings::SharingRule;
 use refusal::Fault;
 use refusal::Refusal;
@@ -48,7 +49,8 @@ fn next_line(text: &[u8], line: u32) -> Result<(&[u8], &[u8]), Fault>
 }
 
 pub fn read_cells(text: &[u8]) -> Result<(u32, &[u8]), Fault>
-    ensures { λ r. ⌜ Cases r (λ p. readLine 1 (λ l. numbered 1 65535 (behind (codes "cells=") l)) (now (text .entry)) ≡ Ok (p .0, now (p .1))) (λ f. readLine 1 (λ l. numbered 1 65535 (behind (codes "cells=") l)) (now (text .entry)) ≡ Err f) ⌝ }
+    ensures value { λ r. ⌜ Cases r (λ p. readCells (now (text .entry)) ≡ Ok (p .0, now (p .1))) (λ f. readCells (now (text .entry)) ≡ Err f) ⌝ }
+    ensures bounds { λ r. ⌜ made r (λ p. (1 ≤ p .0) × (p .0 ≤ 65535)) ⌝ }
 {
     let (line, rest) = next_line(text, 1)?;
     let cells = on_line(1, number_in(cells_value(line), 1, 65535))?;
@@ -56,7 +58,8 @@ pub fn read_cells(text: &[u8]) -> Result<(u32, &[u8]), Fault>
 }
 
 pub fn read_width(text: &[u8], cells: u32) -> Result<(u32, &[u8]), Fault>
-    ensures { λ r. ⌜ Cases r (λ p. readLine 2 (λ l. widthIn cells (behind (codes "width=") l)) (now (text .entry)) ≡ Ok (p .0, now (p .1))) (λ f. readLine 2 (λ l. widthIn cells (behind (codes "width=") l)) (now (text .entry)) ≡ Err f) ⌝ }
+    ensures value { λ r. ⌜ Cases r (λ p. readWidth cells (now (text .entry)) ≡ Ok (p .0, now (p .1))) (λ f. readWidth cells (now (text .entry)) ≡ Err f) ⌝ }
+    ensures bounds { λ r. ⌜ made r (λ p. (1 ≤ p .0) × (p .0 ≤ 65535)) ⌝ }
 {
     let (line, rest) = next_line(text, 2)?;
     let width = on_line(2, width_in(width_value(line), cells))?;
@@ -64,7 +67,8 @@ pub fn read_width(text: &[u8], cells: u32) -> Result<(u32, &[u8]), Fault>
 }
 
 pub fn read_markers(text: &[u8]) -> Result<(u32, &[u8]), Fault>
-    ensures { λ r. ⌜ Cases r (λ p. readLine 3 (λ l. numbered 1 16 (behind (codes "markers=") l)) (now (text .entry)) ≡ Ok (p .0, now (p .1))) (λ f. readLine 3 (λ l. numbered 1 16 (behind (codes "markers=") l)) (now (text .entry)) ≡ Err f) ⌝ }
+    ensures value { λ r. ⌜ Cases r (λ p. readMarkers (now (text .entry)) ≡ Ok (p .0, now (p .1))) (λ f. readMarkers (now (text .entry)) ≡ Err f) ⌝ }
+    ensures bounds { λ r. ⌜ made r (λ p. (1 ≤ p .0) × (p .0 ≤ 16)) ⌝ }
 {
     let (line, rest) = next_line(text, 3)?;
     let markers = on_line(3, number_in(markers_value(line), 1, 16))?;
@@ -72,7 +76,7 @@ pub fn read_markers(text: &[u8]) -> Result<(u32, &[u8]), Fault>
 }
 
 pub fn read_share(text: &[u8]) -> Result<(SharingRule, &[u8]), Fault>
-    ensures { λ r. ⌜ Cases r (λ p. readLine 4 (λ l. ruled (behind (codes "share=") l)) (now (text .entry)) ≡ Ok (p .0, now (p .1))) (λ f. readLine 4 (λ l. ruled (behind (codes "share=") l)) (now (text .entry)) ≡ Err f) ⌝ }
+    ensures { λ r. ⌜ Cases r (λ p. readShare (now (text .entry)) ≡ Ok (p .0, now (p .1))) (λ f. readShare (now (text .entry)) ≡ Err f) ⌝ }
 {
     let (line, rest) = next_line(text, 4)?;
     let share = on_line(4, rule_in(share_value(line)))?;
@@ -80,7 +84,8 @@ pub fn read_share(text: &[u8]) -> Result<(SharingRule, &[u8]), Fault>
 }
 
 pub fn read_objects(text: &[u8]) -> Result<(u32, &[u8]), Fault>
-    ensures { λ r. ⌜ Cases r (λ p. readLine 5 (λ l. numbered 0 65535 (behind (codes "objects=") l)) (now (text .entry)) ≡ Ok (p .0, now (p .1))) (λ f. readLine 5 (λ l. numbered 0 65535 (behind (codes "objects=") l)) (now (text .entry)) ≡ Err f) ⌝ }
+    ensures value { λ r. ⌜ Cases r (λ p. readObjects (now (text .entry)) ≡ Ok (p .0, now (p .1))) (λ f. readObjects (now (text .entry)) ≡ Err f) ⌝ }
+    ensures bounds { λ r. ⌜ made r (λ p. p .0 ≤ 65535) ⌝ }
 {
     let (line, rest) = next_line(text, 5)?;
     let objects = on_line(5, number_in(objects_value(line), 0, 65535))?;
@@ -88,7 +93,8 @@ pub fn read_objects(text: &[u8]) -> Result<(u32, &[u8]), Fault>
 }
 
 pub fn read_at(text: &[u8], number: u32, end: u32) -> Result<(u32, &[u8]), Fault>
-    ensures { λ r. ⌜ Cases r (λ p. readLine number (λ l. atIn end (behind (codes "at=") l)) (now (text .entry)) ≡ Ok (p .0, now (p .1))) (λ f. readLine number (λ l. atIn end (behind (codes "at=") l)) (now (text .entry)) ≡ Err f) ⌝ }
+    ensures value { λ r. ⌜ Cases r (λ p. readAt number end (now (text .entry)) ≡ Ok (p .0, now (p .1))) (λ f. readAt number end (now (text .entry)) ≡ Err f) ⌝ }
+    ensures bounds { λ r. ⌜ made r (λ p. p .0 ≤ 65535) ⌝ }
 {
     let (line, rest) = next_line(text, number)?;
     let at = on_line(number, at_in(at_value(line), end))?;
@@ -96,7 +102,8 @@ pub fn read_at(text: &[u8], number: u32, end: u32) -> Result<(u32, &[u8]), Fault
 }
 
 pub fn read_len(text: &[u8], number: u32, at: u32, cells: u32) -> Result<(u32, &[u8]), Fault>
-    ensures { λ r. ⌜ Cases r (λ p. readLine number (λ l. lenIn at cells (behind (codes "len=") l)) (now (text .entry)) ≡ Ok (p .0, now (p .1))) (λ f. readLine number (λ l. lenIn at cells (behind (codes "len=") l)) (now (text .entry)) ≡ Err f) ⌝ }
+    ensures value { λ r. ⌜ Cases r (λ p. readLen number at cells (now (text .entry)) ≡ Ok (p .0, now (p .1))) (λ f. readLen number at cells (now (text .entry)) ≡ Err f) ⌝ }
+    ensures bounds { λ r. ⌜ made r (λ p. (1 ≤ p .0) × (p .0 ≤ 65535)) ⌝ }
 {
     let (line, rest) = next_line(text, number)?;
     let len = on_line(number, len_in(len_value(line), at, cells))?;
@@ -104,7 +111,7 @@ pub fn read_len(text: &[u8], number: u32, at: u32, cells: u32) -> Result<(u32, &
 }
 
 pub fn read_refs(text: &[u8], number: u32, before: usize, objects: u32) -> Result<(NumberList<'_>, &[u8]), Fault>
-    ensures { λ r. ⌜ Cases r (λ p. readLine number (λ l. listIn before 262144 objects (behind (codes "refs=") l)) (now (text .entry)) ≡ Ok ((p .0 .count, now (p .0 .text)), now (p .1))) (λ f. readLine number (λ l. listIn before 262144 objects (behind (codes "refs=") l)) (now (text .entry)) ≡ Err f) ⌝ }
+    ensures { λ r. ⌜ Cases r (λ p. readRefs number before objects (now (text .entry)) ≡ Ok ((p .0 .count, now (p .0 .text)), now (p .1))) (λ f. readRefs number before objects (now (text .entry)) ≡ Err f) ⌝ }
 {
     let (line, rest) = next_line(text, number)?;
     let refs = on_line(number, list_in(refs_value(line), before, 262144, objects))?;
@@ -112,9 +119,43 @@ pub fn read_refs(text: &[u8], number: u32, before: usize, objects: u32) -> Resul
 }
 
 pub fn read_roots(text: &[u8], number: u32, objects: u32) -> Result<(NumberList<'_>, &[u8]), Fault>
-    ensures { λ r. ⌜ Cases r (λ p. readLine number (λ l. listIn 0 4096 objects (behind (codes "roots=") l)) (now (text .entry)) ≡ Ok ((p .0 .count, now (p .0 .text)), now (p .1))) (λ f. readLine number (λ l. listIn 0 4096 objects (behind (codes "roots=") l)) (now (text .entry)) ≡ Err f) ⌝ }
+    ensures { λ r. ⌜ Cases r (λ p. readRoots number objects (now (text .entry)) ≡ Ok ((p .0 .count, now (p .0 .text)), now (p .1))) (λ f. readRoots number objects (now (text .entry)) ≡ Err f) ⌝ }
 {
     let (line, rest) = next_line(text, number)?;
     let roots = on_line(number, list_in(roots_value(line), 0, 4096, objects))?;
     Ok((roots, rest))
+}
+
+// The first five lines, and the text behind them.
+pub fn read_header(text: &[u8]) -> Result<(Header, &[u8]), Fault>
+    ensures value { λ r. ⌜ Cases r (λ p. readHeader (now (text .entry)) ≡ Ok (p .0, now (p .1))) (λ f. readHeader (now (text .entry)) ≡ Err f) ⌝ }
+    ensures bounds { λ r. ⌜ made r (λ p. (1 ≤ p .0 .cells) × (p .0 .cells ≤ 65535) × (1 ≤ p .0 .width) × (p .0 .width ≤ 65535) × (p .0 .markers ≤ 16) × (p .0 .objects ≤ 65535)) ⌝ }
+{
+    let (cells, rest) = read_cells(text)?;
+    let (width, rest) = read_width(rest, cells)?;
+    let (markers, rest) = read_markers(rest)?;
+    let (share, rest) = read_share(rest)?;
+    let (objects, rest) = read_objects(rest)?;
+    Ok((Header { cells, width, markers, share, objects }, rest))
+}
+
+// An object as its three lines give it; its references are still text.
+#[derive(Clone, Copy)]
+pub struct ObjectLines<'a> {
+    pub at: u32,
+    pub len: u32,
+    pub refs: NumberList<'a>,
+}
+
+// The three lines of an object, from line `number` on, and the text behind them. `end` is the end of the object before, and `before`
+// the number of references so far.
+pub fn read_object(header: Header, text: &[u8], number: u32, end: u32, before: usize) -> Result<(ObjectLines<'_>, &[u8]), Fault>
+    requires { ⌜ number ≤ 196608 ⌝ }
+    ensures value { λ r. ⌜ Cases r (λ p. readObject header end before number (now (text .entry)) ≡ Ok ((p .0 .at, p .0 .len, (p .0 .refs .count, now (p .0 .refs .text))), now (p .1))) (λ f. readObject header end before number (now (text .entry)) ≡ Err f) ⌝ }
+    ensures bounds { λ r. ⌜ made r (λ p. (p .0 .at ≤ 65535) × (1 ≤ p .0 .len) × (p .0 .len ≤ 65535)) ⌝ }
+{
+    let (at, rest) = read_at(text, number, end)?;
+    let (len, rest) = read_len(rest, number + 1, at, header.cells)?;
+    let (refs, rest) = read_refs(rest, number + 2, before, header.objects)?;
+    Ok((ObjectLines { at, len, refs }, rest))
 }
