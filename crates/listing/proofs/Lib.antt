@@ -4,3 +4,5 @@ pub mod Surveys
 pub mod Spelled
 pub mod Words
 pub mod Stepping
+pub mod Progress
+pub mod Checked

@@ -4,5 +4,6 @@ pub mod Survey
 pub mod Rules
 pub mod Judge
 pub mod Lines
+pub mod Reading
 pub mod Written
 pub mod Faults

@@ -5,5 +5,6 @@ pub mod list;
 pub mod keys;
 pub mod line;
 pub mod lines;
+pub mod check;
 pub use settings::Settings;
 pub use settings::SharingRule;
