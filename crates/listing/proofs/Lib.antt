@@ -6,3 +6,4 @@ pub mod Words
 pub mod Stepping
 pub mod Progress
 pub mod Checked
+pub mod Lists

@@ -16,7 +16,7 @@ use Rattle.listing.specs.Lines.{counted}
 use Rattle.listing.specs.declared.list.Survey.{Survey}
 use Rattle.listing.specs.Numeral.{numeral, valueOf}
 use Rattle.listing.specs.Pieces.{upTo, past, pieces, listed, allNumerals, numerals, numbers, largest}
-use Rattle.listing.specs.Survey.{surveyed}
+use Rattle.listing.specs.Survey.{surveyed, NumbersIn}
 use Rattle.listing.proofs.Cuts.{pieces-step, pieces-more, pieces-last}
 
 abbrev pub top : ℕ
@@ -110,8 +110,8 @@ count-stranger b m o n v s e f g l w t =
     rw (h .0, count-bounded b m n v s e f g l w, lt-leb (largest (numbers v)) o k)
 
 pub count-right : (b m o n : ℕ) (v : List ℕ) (s : Survey) → Some s ≡ surveyed (listed v) → s .largest ≤ 65535 → n ≡ min (b + s .count) (2 ^ 64 - 1) → n ≤ m → m < 2 ^ 32
-    → s .largest ≤ o → (Ok (s .count) ≡ counted b m o v) × ((s .count ≡ length (numbers v)) × (b + s .count ≤ m))
+    → s .largest ≤ o → (Ok (s .count) ≡ counted b m o v) × (NumbersIn v (s .count) × (b + s .count ≤ m))
 count-right b m o n v s e f g l w t =
     let h = survey-facts v s e in
     let k : largest (numbers v) ≤ o = omega (arith, h .2) in
-    (rw (h .0, count-bounded b m n v s e f g l w, le-leb (largest (numbers v)) o k, h .1), (h .1, omega arith))
+    (rw (h .0, count-bounded b m n v s e f g l w, le-leb (largest (numbers v)) o k, h .1), (record { formed = h .0; small = omega (arith, h .2); counted = h .1 }, omega arith))

@@ -5,5 +5,7 @@ pub mod Rules
 pub mod Judge
 pub mod Lines
 pub mod Reading
+pub mod Filling
 pub mod Written
 pub mod Faults
+pub mod Laws

@@ -6,5 +6,6 @@ pub mod keys;
 pub mod line;
 pub mod lines;
 pub mod check;
+pub mod fill;
 pub use settings::Settings;
 pub use settings::SharingRule;

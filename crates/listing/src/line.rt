@@ -1,11 +1,10 @@
 ghost use mathlib.Core.Path.{_≡_};
 ghost use Prim.Native.Nat.{ℕ, _+_, _≤_};
-ghost use lib.ListN.{length};
 ghost use Rattle.std.specs.Options.{mapped};
 ghost use Rattle.std.specs.Vec.{made};
 ghost use Rattle.std.specs.Results.{Cases};
 ghost use Rattle.std.specs.declared.result.Result.the-variants.{Ok, Err};
-ghost use Rattle.listing.specs.Pieces.{numbers};
+ghost use Rattle.listing.specs.Survey.{NumbersIn};
 ghost use Rattle.listing.specs.Lines.{numbered, widthIn, atIn, lenIn, Named, ruled, counted, listIn};
 use crate::list::survey_list;
 use crate::number::number;
@@ -74,7 +73,7 @@ pub fn rule_in(value: Option<&[u8]>) -> Result<SharingRule, Refusal>
 // How many numbers a list has: with those before at most `most`, each at most the number of objects.
 fn count_in(text: &[u8], before: usize, most: u32, objects: u32) -> Result<usize, Refusal>
     ensures value { λ r. ⌜ r ≡ counted before most objects (now (text .entry)) ⌝ }
-    ensures counts { λ r. ⌜ made r (λ n. (n ≡ length (numbers (now (text .entry)))) × (before + n ≤ most)) ⌝ }
+    ensures counts { λ r. ⌜ made r (λ n. NumbersIn (now (text .entry)) n × (before + n ≤ most)) ⌝ }
 {
     let Some(list) = survey_list(text) else {
         return Err(Refusal::Form);
@@ -96,7 +95,7 @@ pub struct NumberList<'a> {
 // The list of numbers that is a line's value.
 pub fn list_in(value: Option<&[u8]>, before: usize, most: u32, objects: u32) -> Result<NumberList<'_>, Refusal>
     ensures value { λ r. ⌜ Cases r (λ l. listIn before most objects (mapped now (value .entry)) ≡ Ok (l .count, now (l .text))) (λ e. listIn before most objects (mapped now (value .entry)) ≡ Err e) ⌝ }
-    ensures counts { λ r. ⌜ made r (λ l. (l .count ≡ length (numbers (now (l .text)))) × (before + l .count ≤ most)) ⌝ }
+    ensures counts { λ r. ⌜ made r (λ l. NumbersIn (now (l .text)) (l .count) × (before + l .count ≤ most)) ⌝ }
 {
     let text = value.ok_or(Refusal::Form)?;
     let count = count_in(text, before, most, objects)?;

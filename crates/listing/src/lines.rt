@@ -1,11 +1,10 @@
 ghost use mathlib.Core.Path.{_≡_};
 ghost use Prim.Native.Nat.{ℕ, _+_, _≤_};
-ghost use lib.ListN.{length};
 ghost use Rattle.std.specs.Results.{Cases};
 ghost use Rattle.std.specs.Vec.{made};
 ghost use Rattle.std.specs.declared.result.Result.the-variants.{Ok, Err};
 ghost use Rattle.listing.specs.Judge.{onLine};
-ghost use Rattle.listing.specs.Pieces.{numbers};
+ghost use Rattle.listing.specs.Survey.{NumbersIn};
 ghost use Rattle.listing.specs.Lines.{lineOf, readCells, readWidth, readMarkers, readShare, readObjects, readAt, readLen, readRefs, readRoots, readHeader, readObject};
 use crate::keys::at_value;
 use crate::keys::cells_value;
@@ -114,7 +113,7 @@ pub fn read_len(text: &[u8], number: u32, at: u32, cells: u32) -> Result<(u32, &
 
 pub fn read_refs(text: &[u8], number: u32, before: usize, objects: u32) -> Result<(NumberList<'_>, &[u8]), Fault>
     ensures value { λ r. ⌜ Cases r (λ p. readRefs number before objects (now (text .entry)) ≡ Ok ((p .0 .count, now (p .0 .text)), now (p .1))) (λ f. readRefs number before objects (now (text .entry)) ≡ Err f) ⌝ }
-    ensures counts { λ r. ⌜ made r (λ p. (p .0 .count ≡ length (numbers (now (p .0 .text)))) × (before + p .0 .count ≤ 262144)) ⌝ }
+    ensures counts { λ r. ⌜ made r (λ p. NumbersIn (now (p .0 .text)) (p .0 .count) × (before + p .0 .count ≤ 262144)) ⌝ }
 {
     let (line, rest) = next_line(text, number)?;
     let refs = on_line(number, list_in(refs_value(line), before, 262144, objects))?;
@@ -123,7 +122,7 @@ pub fn read_refs(text: &[u8], number: u32, before: usize, objects: u32) -> Resul
 
 pub fn read_roots(text: &[u8], number: u32, objects: u32) -> Result<(NumberList<'_>, &[u8]), Fault>
     ensures value { λ r. ⌜ Cases r (λ p. readRoots number objects (now (text .entry)) ≡ Ok ((p .0 .count, now (p .0 .text)), now (p .1))) (λ f. readRoots number objects (now (text .entry)) ≡ Err f) ⌝ }
-    ensures counts { λ r. ⌜ made r (λ p. (p .0 .count ≡ length (numbers (now (p .0 .text)))) × (0 + p .0 .count ≤ 4096)) ⌝ }
+    ensures counts { λ r. ⌜ made r (λ p. NumbersIn (now (p .0 .text)) (p .0 .count) × (0 + p .0 .count ≤ 4096)) ⌝ }
 {
     let (line, rest) = next_line(text, number)?;
     let roots = on_line(number, list_in(roots_value(line), 0, 4096, objects))?;
@@ -157,7 +156,7 @@ pub fn read_object(header: Header, text: &[u8], number: u32, end: u32, before: u
     requires { ⌜ number ≤ 196608 ⌝ }
     ensures value { λ r. ⌜ Cases r (λ p. readObject header end before number (now (text .entry)) ≡ Ok ((p .0 .at, p .0 .len, (p .0 .refs .count, now (p .0 .refs .text))), now (p .1))) (λ f. readObject header end before number (now (text .entry)) ≡ Err f) ⌝ }
     ensures bounds { λ r. ⌜ made r (λ p. (p .0 .at ≤ 65535) × (1 ≤ p .0 .len) × (p .0 .len ≤ 65535)) ⌝ }
-    ensures counts { λ r. ⌜ made r (λ p. (p .0 .refs .count ≡ length (numbers (now (p .0 .refs .text)))) × (before + p .0 .refs .count ≤ 262144)) ⌝ }
+    ensures counts { λ r. ⌜ made r (λ p. NumbersIn (now (p .0 .refs .text)) (p .0 .refs .count) × (before + p .0 .refs .count ≤ 262144)) ⌝ }
 {
     let (at, rest) = read_at(text, number, end)?;
     let (len, rest) = read_len(rest, number + 1, at, header.cells)?;

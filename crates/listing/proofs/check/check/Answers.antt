@@ -29,7 +29,7 @@ pub returns : need.returns
 returns c =
     totals-read (c .args .text .now) (c .in-Continue-header .rest .now) (c .in-Continue-references .rest .now) (c .in-Continue-roots .roots .text .now) (c .in-Continue-roots .rest .now)
     (c .in-Continue-header .header) (c .in-Continue-references .references) (c .in-Continue-roots .roots .count) (c .in-Continue-header .ensures tt .value)
-    (c .in-Continue-references .ensures tt) (c .in-Continue-roots .ensures tt .value) (nil-from-length (c .in-Continue-roots .rest .now) (omega arith)) (c .in-Continue-roots .ensures tt .counts .0)
+    (c .in-Continue-references .ensures tt) (c .in-Continue-roots .ensures tt .value) (nil-from-length (c .in-Continue-roots .rest .now) (omega arith)) (c .in-Continue-roots .ensures tt .counts .0 .counted)
 
 pub returns-then-rest-gt0 : need.returns-then-rest-gt0
 returns-then-rest-gt0 c =

@@ -11,7 +11,7 @@ loop-i-again c =
     let o = c .in-Continue-object .object in
     let e = c .in-Continue-object .ensures tt in
     one-more-so-far (c .args .header) (c .args .text .now) (c .loop-i .-i) (c .loop-i .number) (c .loop-i .end) (c .loop-i .references) (c .loop-i .rest .now)
-    (o .at) (o .len) (o .refs .count) (o .refs .text .now) (c .in-Continue-object .behind .now) (c .loop-i .inv) (c .loop-i-test .taken) (e .value) (e .counts .0) (e .counts .1)
+    (o .at) (o .len) (o .refs .count) (o .refs .text .now) (c .in-Continue-object .behind .now) (c .loop-i .inv) (c .loop-i-test .taken) (e .value) (e .counts .0 .counted) (e .counts .1)
 
 pub returns-in-Break-object : need.returns-in-Break-object
 returns-in-Break-object c =

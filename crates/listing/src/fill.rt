@@ -1,0 +1,61 @@
+ghost use mathlib.Core.Path.{_≡_};
+ghost use mathlib.Core.Bool.{true};
+ghost use mathlib.Core.List.{[]};
+ghost use Prim.Native.Nat.{ℕ, _+_, _≤_};
+ghost use lib.ListN.{length};
+ghost use Rattle.std.specs.Options.{valueOr};
+ghost use Rattle.std.specs.shelf.Lists.{paste};
+ghost use Rattle.heap.specs.Handed.{tablesOf};
+ghost use Rattle.listing.specs.Numeral.{numeral, valueOf};
+ghost use Rattle.listing.specs.Pieces.{upTo, past, numbers};
+ghost use Rattle.listing.specs.Survey.{NumbersIn};
+ghost use Rattle.listing.specs.Filling.{SameLenders, withReferences, withRoots};
+use crate::line::NumberList;
+use crate::list::cut;
+use crate::number::number;
+use heap::CheckedHeap;
+
+// The first number of a list, and the list behind it.
+fn first_number(list: &[u8]) -> (u16, &[u8])
+    ensures number { λ r. ⌜ (numeral (upTo 44 (now (list .entry))) ≡ true → valueOf (upTo 44 (now (list .entry))) ≤ 65535 → r .0 ≡ valueOf (upTo 44 (now (list .entry)))) ⌝ }
+    ensures rest { λ r. ⌜ now (r .1) ≡ valueOr (past 44 (now (list .entry))) [] ⌝ }
+{
+    let (piece, more) = cut(list, b',');
+    let n = number(piece).unwrap_or(0).min(65535) as u16;
+    match more {
+        Some(rest) => (n, rest),
+        None => (n, &[]),
+    }
+}
+
+// Writes the numbers of a list into the reference table, from place `first` on. The heap has no references yet.
+fn fill_references(list: NumberList<'_>, first: usize, heap: &mut CheckedHeap)
+    requires listed { ⌜ NumbersIn (now (list .text)) (list .count) ⌝ }
+    requires room { ⌜ first + list .count ≤ length (now (now heap .«reference_table»)) ⌝ }
+    requires empty { ⌜ now heap .references ≡ 0 ⌝ }
+    ensures tables { λ _. ⌜ tablesOf (now (heap .exit)) ≡ withReferences (paste (now (now (heap .entry) .«reference_table»)) first (numbers (now (list .entry .text))) (list .entry .count)) (tablesOf (now (heap .entry))) ⌝ }
+    ensures lenders { λ _. ⌜ SameLenders (now (heap .entry)) (now (heap .exit)) ⌝ }
+{
+    let mut rest = list.text;
+    for i in 0..list.count {
+        let (n, behind) = first_number(rest);
+        heap.reference_table[first + i] = n;
+        rest = behind;
+    }
+}
+
+// Writes the numbers of a list into the root table. The heap has no roots yet.
+fn fill_roots(list: NumberList<'_>, heap: &mut CheckedHeap)
+    requires listed { ⌜ NumbersIn (now (list .text)) (list .count) ⌝ }
+    requires room { ⌜ list .count ≤ length (now (now heap .«root_table»)) ⌝ }
+    requires empty { ⌜ now heap .roots ≡ 0 ⌝ }
+    ensures tables { λ _. ⌜ tablesOf (now (heap .exit)) ≡ withRoots (paste (now (now (heap .entry) .«root_table»)) 0 (numbers (now (list .entry .text))) (list .entry .count)) (tablesOf (now (heap .entry))) ⌝ }
+    ensures lenders { λ _. ⌜ SameLenders (now (heap .entry)) (now (heap .exit)) ⌝ }
+{
+    let mut rest = list.text;
+    for i in 0..list.count {
+        let (n, behind) = first_number(rest);
+        heap.root_table[i] = n;
+        rest = behind;
+    }
+}
