@@ -7,3 +7,5 @@ pub mod Stepping
 pub mod Progress
 pub mod Checked
 pub mod Lists
+pub mod Tables
+pub mod Fewer

@@ -29,7 +29,7 @@ pub record Objects-so-far (h : Header) (text : List ℕ) (i number end reference
   pub numbered : number ≡ 6 + 3 * i
   pub judged : judgeText (Objects h [] (h .objects)) 6 text ≡ judgeText (Objects h done (h .objects - i)) number rest
 
-pub none-so-far : (h : Header) (text : List ℕ) → Objects-so-far h text 0 6 0 0 text
+abbrev pub none-so-far : (h : Header) (text : List ℕ) → Objects-so-far h text 0 6 0 0 text
 none-so-far h text =
     let z : h .objects ≡ h .objects - 0 = omega arith in
     record
@@ -47,7 +47,7 @@ end-push from [] o = refl
 end-push from (p ∷ os) o = end-push (p .at + p .len) os o
 
 -- the next object is judged by its lines
-next-object : (h : Header) (text : List ℕ) (i number end references : ℕ) (rest : List ℕ) (s : Objects-so-far h text i number end references rest) → i < h .objects
+pub next-object : (h : Header) (text : List ℕ) (i number end references : ℕ) (rest : List ℕ) (s : Objects-so-far h text i number end references rest) → i < h .objects
     → judgeText (Objects h [] (h .objects)) 6 text
     ≡ then (readObject h end references number rest) (λ p. judgeText (Objects h (s .done ++ objectRead (p .0) ∷ []) (h .objects - (i + 1))) (number + 3) (p .1))
 next-object h text i number end references rest s l =
@@ -61,7 +61,7 @@ next-object h text i number end references rest s l =
   after : (ℕ × ℕ × (ℕ × List ℕ)) × List ℕ → Result (Heap × Settings) Fault
   after p = judgeText (Objects h (s .done ++ objectRead (p .0) ∷ []) (h .objects - (i + 1))) (number + 3) (p .1)
 
-pub one-more-so-far : (h : Header) (text : List ℕ) (i number end references : ℕ) (rest : List ℕ) (at len count : ℕ) (list behind : List ℕ)
+abbrev pub one-more-so-far : (h : Header) (text : List ℕ) (i number end references : ℕ) (rest : List ℕ) (at len count : ℕ) (list behind : List ℕ)
     → Objects-so-far h text i number end references rest → i < h .objects
     → readObject h end references number rest ≡ Ok ((at, len, (count, list)), behind) → count ≡ length (numbers list) → references + count ≤ 262144
     → Objects-so-far h text (i + 1) (number + 3) (at + len) (references + count) behind

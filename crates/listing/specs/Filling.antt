@@ -1,11 +1,18 @@
 -- What filling the tables of a heap changes. Assumes nothing.
 use mathlib.Core.Path.{_≡_}
-use mathlib.Core.List.{List}
-use Prim.Native.Nat.{ℕ}
+use mathlib.Core.List.{List, [], _++_}
+use Prim.Native.Nat.{ℕ, _+_, _*_, _≤_}
 use denote.Ref.{name}
+use lib.ListN.{length, drop}
+use Rattle.std.specs.declared.result.Result.the-variants.{Ok}
 use Rattle.heap.specs.declared.checked.CheckedHeap.{CheckedHeap}
 use Rattle.heap.specs.declared.entry.ObjectEntry.{ObjectEntry}
-use Rattle.heap.specs.Tables.{Tables}
+use Rattle.heap.specs.Heap.{Heap, Object, referencesIn}
+use Rattle.heap.specs.Tables.{Tables, entriesFrom, referencesOf}
+use Rattle.listing.specs.declared.settings.Header.{Header}
+use Rattle.listing.specs.declared.settings.Settings.{Settings}
+use Rattle.listing.specs.Rules.{Objects}
+use Rattle.listing.specs.Judge.{judgeText}
 
 -- two checked heaps lie over the same lent tables
 abbrev pub SameLenders : CheckedHeap → CheckedHeap → Type 0
@@ -37,3 +44,32 @@ withRoots roots t =
     ; reference-table = t .reference-table
     ; root-table = roots
     }
+
+-- the tables once objects are filled in
+abbrev pub withObjects : List Object → Tables → Tables
+withObjects os t =
+    record
+    { cells = t .cells
+    ; width = t .width
+    ; objects = t .objects
+    ; references = t .references
+    ; roots = t .roots
+    ; object-table = entriesFrom 0 os ++ drop (length os) (t .object-table)
+    ; reference-table = referencesOf os ++ drop (referencesIn os) (t .reference-table)
+    ; root-table = t .root-table
+    }
+
+-- the objects of an accepted listing, from line 6 on, and room for them
+pub record ObjectsFit (h : Header) (text : List ℕ) (t : Tables) : Type 0 where
+  pub accepted : Heap × Settings
+  pub judged : judgeText (Objects h [] (h .objects)) 6 text ≡ Ok accepted
+  pub few : h .objects ≤ 65535
+  pub objects : h .objects ≤ length (t .object-table)
+  pub references : referencesIn (accepted .0 .objects) ≤ length (t .reference-table)
+
+-- the objects were filled in: `rest` stands behind their lines
+pub record ObjectsFilled (h : Header) (text : List ℕ) (t t′ : Tables) (rest : List ℕ) : Type 0 where
+  pub done : List Object
+  pub long : length done ≡ h .objects
+  pub judged : judgeText (Objects h [] (h .objects)) 6 text ≡ judgeText (Objects h done 0) (6 + 3 * h .objects) rest
+  pub tables : t′ ≡ withObjects done t

@@ -4,16 +4,21 @@ ghost use mathlib.Core.List.{[]};
 ghost use Prim.Native.Nat.{ℕ, _+_, _≤_};
 ghost use lib.ListN.{length};
 ghost use Rattle.std.specs.Options.{valueOr};
+ghost use Rattle.std.specs.Results.{Cases};
 ghost use Rattle.std.specs.shelf.Lists.{paste};
 ghost use Rattle.heap.specs.Handed.{tablesOf};
 ghost use Rattle.listing.specs.Numeral.{numeral, valueOf};
 ghost use Rattle.listing.specs.Pieces.{upTo, past, numbers};
 ghost use Rattle.listing.specs.Survey.{NumbersIn};
-ghost use Rattle.listing.specs.Filling.{SameLenders, withReferences, withRoots};
+ghost use Rattle.listing.specs.Filling.{SameLenders, withReferences, withRoots, ObjectsFit, ObjectsFilled};
 use crate::line::NumberList;
+use crate::lines::read_object;
 use crate::list::cut;
 use crate::number::number;
+use crate::settings::Header;
 use heap::CheckedHeap;
+use heap::ObjectEntry;
+use refusal::Fault;
 
 // The first number of a list, and the list behind it.
 fn first_number(list: &[u8]) -> (u16, &[u8])
@@ -58,4 +63,28 @@ fn fill_roots(list: NumberList<'_>, heap: &mut CheckedHeap)
         heap.root_table[i] = n;
         rest = behind;
     }
+}
+
+// Reads the lines of all objects once more, and fills the tables. The heap is empty, and the listing is known to be right.
+fn fill_objects<'t>(header: Header, text: &'t [u8], heap: &mut CheckedHeap) -> Result<&'t [u8], Fault>
+    requires fits { ⌜ ObjectsFit header (now text) (tablesOf (now heap)) ⌝ }
+    requires empty { ⌜ (now heap .objects ≡ 0) × (now heap .references ≡ 0) ⌝ }
+    ensures filled { λ r. ⌜ Cases r (λ rest. ObjectsFilled header (now (text .entry)) (tablesOf (now (heap .entry))) (tablesOf (now (heap .exit))) (now rest)) (λ _. ⊥) ⌝ }
+    ensures lenders { λ _. ⌜ SameLenders (now (heap .entry)) (now (heap .exit)) ⌝ }
+{
+    let mut rest = text;
+    let mut number = 6u32;
+    let mut end = 0u32;
+    let mut references = 0usize;
+    for i in 0..header.objects {
+        let (object, behind) = read_object(header, rest, number, end, references)?;
+        let count = object.refs.count;
+        fill_references(object.refs, references, heap);
+        heap.object_table[i as usize] = ObjectEntry { at: object.at as u16, len: object.len as u16, first: references as u32, count: count as u32 };
+        end = object.at + object.len;
+        references += count;
+        number += 3;
+        rest = behind;
+    }
+    Ok(rest)
 }
