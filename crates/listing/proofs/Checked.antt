@@ -17,7 +17,7 @@ use Rattle.listing.specs.Pieces.{numbers}
 use Rattle.listing.specs.Lines.{readHeader, readRoots}
 use Rattle.listing.specs.Rules.{Objects, Roots}
 use Rattle.listing.specs.Judge.{then, judge, judgeText, whole, ending}
-use Rattle.listing.specs.Reading.{ObjectsRead, totals, totalsOf}
+use Rattle.listing.specs.Reading.{ObjectsRead, totalsOf, Accepted}
 use Rattle.listing.proofs.Stepping.{header-goes, roots-go, ends-there}
 
 pub headed : (text rest : List ℕ) (h : Header) → readHeader text ≡ Ok (h, rest) → judge text ≡ judgeText (Objects h [] (h .objects)) 6 rest
@@ -52,19 +52,41 @@ pub whole-read : (text rest behind list last : List ℕ) (h : Header) (reference
 whole-read text rest behind list last h references count e o g z =
     all-read text rest behind list last h references count e o g ∙ ap (ending (6 + 3 * h .objects + 1) (whole (Roots h (o .done) (numbers list)))) z
 
-pub totals-read : (text rest behind list last : List ℕ) (h : Header) (references count : ℕ) → readHeader text ≡ Ok (h, rest) → (o : ObjectsRead h rest references behind)
+pub accepted-read : (text rest behind list last : List ℕ) (h : Header) (references count : ℕ) → readHeader text ≡ Ok (h, rest) → (o : ObjectsRead h rest references behind)
     → readRoots (6 + 3 * h .objects) (h .objects) behind ≡ Ok ((count, list), last) → last ≡ [] → count ≡ length (numbers list)
-    → Ok (record { header = h; references = references; roots = count }) ≡ totals (judge text)
-totals-read text rest behind list last h references count e o g z n =
+    → Accepted text (record { header = h; references = references; roots = count }) rest
+accepted-read text rest behind list last h references count e o g z n =
     let a : h .objects ≡ length (o .done) = sym (o .long) in
     let b : references ≡ referencesIn (o .done) = sym (o .counted) in
-    ap (λ m. Ok (record { header = record { cells = h .cells; width = h .width; markers = h .markers; share = h .share; objects = m }; references = references; roots = count })) a
-    ∙ ap (λ m. Ok (record { header = totalsOf (heapRead h (o .done) (numbers list)) .header; references = m; roots = count })) b
-    ∙ ap (λ m. Ok (record { header = totalsOf (heapRead h (o .done) (numbers list)) .header; references = referencesIn (o .done); roots = m })) n
-    ∙ sym (ap totals (whole-read text rest behind list last h references count e o g z))
+    let w = whole-read text rest behind list last h references count e o g z in
+    record
+    { heap = heapRead h (o .done) (numbers list)
+    ; judged = w
+    ; totals =
+        ap (λ m. record { header = record { cells = h .cells; width = h .width; markers = h .markers; share = h .share; objects = m }; references = references; roots = count }) a
+        ∙ ap (λ m. record { header = totalsOf (heapRead h (o .done) (numbers list)) .header; references = m; roots = count }) b
+        ∙ ap (λ m. record { header = totalsOf (heapRead h (o .done) (numbers list)) .header; references = referencesIn (o .done); roots = m }) n
+    ; behind = sym (headed text rest h e) ∙ w
+    }
 
 pub more-behind : (text rest behind list last : List ℕ) (h : Header) (references count : ℕ) → readHeader text ≡ Ok (h, rest) → (o : ObjectsRead h rest references behind)
     → readRoots (6 + 3 * h .objects) (h .objects) behind ≡ Ok ((count, list), last) → 0 < length last
-    → Err (fault Form (6 + 3 * h .objects + 1)) ≡ totals (judge text)
+    → judge text ≡ Err (fault Form (6 + 3 * h .objects + 1))
 more-behind text rest behind list [] h references count e o g z = absurd (omega arith)
-more-behind text rest behind list (b ∷ bs) h references count e o g z = sym (ap totals (all-read text rest behind list (b ∷ bs) h references count e o g))
+more-behind text rest behind list (b ∷ bs) h references count e o g z = all-read text rest behind list (b ∷ bs) h references count e o g
+
+-- the heap that is filled in is the one that was judged
+pub same-heap : (h : Header) (done : List Object) (n count : ℕ) (rest list last : List ℕ) (x : Heap × Settings) → judgeText (Objects h done 0) n rest ≡ Ok x
+    → readRoots n (h .objects) rest ≡ Ok ((count, list), last) → x ≡ heapRead h done (numbers list)
+same-heap h done n count rest list last x e g = by last (sym e ∙ roots-go h done n rest ∙ ap (λ r. then r (λ p. judgeText (Roots h done (numbers (p .0 .1))) (n + 1) (p .1))) g ∙ ends-there h done (numbers list) (n + 1) last)
+  where
+  by : (last : List ℕ) → Ok x ≡ ending (n + 1) (whole (Roots h done (numbers list))) last → x ≡ heapRead h done (numbers list)
+  by [] q = cc
+  by (b ∷ bs) q = let z : _≡_ {A = ℕ} 0 1 = cc in absurd (omega arith)
+
+pub no-root-fault : (h : Header) (done : List Object) (n : ℕ) (rest : List ℕ) (x : Heap × Settings) (f : Fault) → judgeText (Objects h done 0) n rest ≡ Ok x
+    → readRoots n (h .objects) rest ≡ Err f → ⊥
+no-root-fault h done n rest x f e g =
+    let q : Ok x ≡ Err f = sym e ∙ roots-go h done n rest ∙ ap (λ r. then r (λ p. judgeText (Roots h done (numbers (p .0 .1))) (n + 1) (p .1))) g in
+    let z : _≡_ {A = ℕ} 0 1 = cc in
+    omega arith

@@ -10,10 +10,13 @@ use Rattle.std.proofs.shelf.Lists.{append-assoc, length-append, length-drop, le
 use Rattle.std.proofs.shelf.Edits.{paste-all}
 use Rattle.std.proofs.shelf.Sums.{sumBy-push, sumBy-cons}
 use Rattle.heap.specs.declared.entry.ObjectEntry.{ObjectEntry}
-use Rattle.heap.specs.Heap.{Object, referencesIn}
+use Rattle.heap.specs.Heap.{Heap, Object, referencesIn}
 use Rattle.heap.specs.Tables.{Tables, blank, entriesFrom, referencesOf}
 use Rattle.heap.proofs.Filled.{length-entries, length-references}
-use Rattle.listing.specs.Filling.{withObjects, withReferences}
+use Rattle.listing.specs.Filling.{withObjects, withReferences, withRoots, withHeap}
+use Rattle.listing.specs.declared.settings.Header.{Header}
+use Rattle.listing.specs.declared.settings.Settings.{Settings}
+use Rattle.listing.proofs.Checked.{heapRead}
 
 abbrev pub entryOf : ℕ → Object → ObjectEntry
 entryOf first o = record { at = o .at; len = o .len; first = first; count = length (o .refs) }
@@ -90,3 +93,15 @@ pub length-filled : (old now : Tables) (os : List Object) → now ≡ withObject
 length-filled old now os e l =
     ap (λ t. length (t .reference-table)) e
     ∙ omega (arith, length-append (referencesOf os) (drop (referencesIn os) (old .reference-table)), length-references os, length-drop (referencesIn os) (old .reference-table))
+
+-- the tables once the roots are filled in too
+pub roots-filled : (old now last : Tables) (h : Header) (os : List Object) (rs : List ℕ) (count : ℕ) (x : Heap × Settings) → now ≡ withObjects os old
+    → last ≡ withRoots (paste (now .root-table) 0 rs count) now → count ≡ length rs → x ≡ heapRead h os rs → last ≡ withHeap (x .0) old
+roots-filled old now last h os rs count x e f c s =
+    let zero : 0 + count ≡ length rs = omega (arith, c) in
+    let roots : paste (old .root-table) 0 rs count ≡ rs ++ drop (length rs) (old .root-table) =
+      paste-all (old .root-table) 0 rs count c ∙ ap (λ n. rs ++ drop n (old .root-table)) zero in
+    f
+    ∙ ap (λ t. withRoots (paste (t .root-table) 0 rs count) t) e
+    ∙ ap (λ xs. withRoots xs (withObjects os old)) roots
+    ∙ ap (λ y. withHeap (y .0) old) (sym s)

@@ -8,7 +8,7 @@ use Rattle.std.specs.declared.result.Result.the-variants.{Ok}
 use Rattle.heap.specs.declared.checked.CheckedHeap.{CheckedHeap}
 use Rattle.heap.specs.declared.entry.ObjectEntry.{ObjectEntry}
 use Rattle.heap.specs.Heap.{Heap, Object, referencesIn}
-use Rattle.heap.specs.Tables.{Tables, entriesFrom, referencesOf}
+use Rattle.heap.specs.Tables.{Tables, entriesFrom, referencesOf, filled}
 use Rattle.listing.specs.declared.settings.Header.{Header}
 use Rattle.listing.specs.declared.settings.Settings.{Settings}
 use Rattle.listing.specs.Rules.{Objects}
@@ -59,13 +59,28 @@ withObjects os t =
     ; root-table = t .root-table
     }
 
--- the objects of an accepted listing, from line 6 on, and room for them
-pub record ObjectsFit (h : Header) (text : List ℕ) (t : Tables) : Type 0 where
+-- the tables once a heap is filled in, and its numbers are not set yet
+abbrev pub withHeap : Heap → Tables → Tables
+withHeap h t =
+    record
+    { cells = t .cells
+    ; width = t .width
+    ; objects = t .objects
+    ; references = t .references
+    ; roots = t .roots
+    ; object-table = filled h t .object-table
+    ; reference-table = filled h t .reference-table
+    ; root-table = filled h t .root-table
+    }
+
+-- the lines of an accepted listing from line 6 on, and room for its heap
+pub record BodyFits (h : Header) (text : List ℕ) (t : Tables) : Type 0 where
   pub accepted : Heap × Settings
   pub judged : judgeText (Objects h [] (h .objects)) 6 text ≡ Ok accepted
   pub few : h .objects ≤ 65535
   pub objects : h .objects ≤ length (t .object-table)
   pub references : referencesIn (accepted .0 .objects) ≤ length (t .reference-table)
+  pub roots : length (accepted .0 .roots) ≤ length (t .root-table)
 
 -- the objects were filled in: `rest` stands behind their lines
 pub record ObjectsFilled (h : Header) (text : List ℕ) (t t′ : Tables) (rest : List ℕ) : Type 0 where

@@ -6,6 +6,7 @@ pub mod Judge
 pub mod Lines
 pub mod Reading
 pub mod Filling
+pub mod Reader
 pub mod Written
 pub mod Faults
 pub mod Laws

@@ -3,15 +3,13 @@ use mathlib.Core.Path.{_≡_}
 use mathlib.Core.List.{List, []}
 use Prim.Native.Nat.{ℕ, _+_, _*_}
 use lib.ListN.{length}
-use Rattle.std.specs.declared.result.Result.{Result}
-use Rattle.std.specs.declared.result.Result.the-variants.{Ok, Err}
-use Rattle.refusal.specs.declared.Fault.{Fault}
+use Rattle.std.specs.declared.result.Result.the-variants.{Ok}
 use Rattle.heap.specs.Heap.{Heap, Object, referencesIn}
 use Rattle.listing.specs.declared.settings.Header.{Header}
 use Rattle.listing.specs.declared.settings.Settings.{Settings}
 use Rattle.listing.specs.declared.check.Totals.{Totals}
 use Rattle.listing.specs.Rules.{Objects}
-use Rattle.listing.specs.Judge.{judgeText}
+use Rattle.listing.specs.Judge.{judge, judgeText}
 
 -- the lines of all objects were read: `rest` stands behind them
 pub record ObjectsRead (h : Header) (text : List ℕ) (references : ℕ) (rest : List ℕ) : Type 0 where
@@ -29,6 +27,9 @@ totalsOf x =
     ; roots = length (x .0 .roots)
     }
 
-abbrev pub totals : Result (Heap × Settings) Fault → Result Totals Fault
-totals (Ok x) = Ok (totalsOf x)
-totals (Err f) = Err f
+-- a listing was found right: what it has in all, and the text behind its header
+pub record Accepted (text : List ℕ) (t : Totals) (body : List ℕ) : Type 0 where
+  pub heap : Heap × Settings
+  pub judged : judge text ≡ Ok heap
+  pub totals : t ≡ totalsOf heap
+  pub behind : judgeText (Objects (t .header) [] (t .header .objects)) 6 body ≡ Ok heap

@@ -6,7 +6,7 @@ ghost use Rattle.std.specs.Results.{Cases};
 ghost use Rattle.std.specs.declared.result.Result.the-variants.{Err};
 ghost use Rattle.listing.specs.Rules.{Objects};
 ghost use Rattle.listing.specs.Judge.{judge, judgeText};
-ghost use Rattle.listing.specs.Reading.{ObjectsRead, totals};
+ghost use Rattle.listing.specs.Reading.{ObjectsRead, Accepted};
 use crate::lines::read_header;
 use crate::lines::read_object;
 use crate::lines::read_roots;
@@ -41,16 +41,16 @@ fn check_objects(header: Header, text: &[u8]) -> Result<(usize, &[u8]), Fault>
     Ok((references, rest))
 }
 
-// Judges a listing, and writes nothing.
-pub fn check(text: &[u8]) -> Result<Totals, Fault>
-    ensures { λ r. ⌜ r ≡ totals (judge (now (text .entry))) ⌝ }
+// Judges a listing, and writes nothing: what it has in all, and the text behind its header.
+pub fn check(text: &[u8]) -> Result<(Totals, &[u8]), Fault>
+    ensures { λ r. ⌜ Cases r (λ p. Accepted (now (text .entry)) (p .0) (now (p .1))) (λ f. judge (now (text .entry)) ≡ Err f) ⌝ }
 {
-    let (header, rest) = read_header(text)?;
-    let (references, rest) = check_objects(header, rest)?;
+    let (header, body) = read_header(text)?;
+    let (references, rest) = check_objects(header, body)?;
     let number = 6 + 3 * header.objects;
     let (roots, rest) = read_roots(rest, number, header.objects)?;
     if rest.len() > 0 {
         return Err(Fault { refusal: Refusal::Form, line: number + 1 });
     }
-    Ok(Totals { header, references, roots: roots.count })
+    Ok((Totals { header, references, roots: roots.count }, body))
 }

@@ -6,13 +6,19 @@ ghost use lib.ListN.{length};
 ghost use Rattle.std.specs.Options.{valueOr};
 ghost use Rattle.std.specs.Results.{Cases};
 ghost use Rattle.std.specs.shelf.Lists.{paste};
+ghost use Rattle.std.specs.declared.result.Result.the-variants.{Ok};
+ghost use Rattle.heap.specs.Heap.{Heap};
 ghost use Rattle.heap.specs.Handed.{tablesOf};
+ghost use Rattle.listing.specs.Rules.{Objects};
+ghost use Rattle.listing.specs.Judge.{judgeText};
+ghost use Rattle.listing.specs.declared.settings.Settings.{Settings};
 ghost use Rattle.listing.specs.Numeral.{numeral, valueOf};
 ghost use Rattle.listing.specs.Pieces.{upTo, past, numbers};
 ghost use Rattle.listing.specs.Survey.{NumbersIn};
-ghost use Rattle.listing.specs.Filling.{SameLenders, withReferences, withRoots, ObjectsFit, ObjectsFilled};
+ghost use Rattle.listing.specs.Filling.{SameLenders, withReferences, withRoots, withHeap, BodyFits, ObjectsFilled};
 use crate::line::NumberList;
 use crate::lines::read_object;
+use crate::lines::read_roots;
 use crate::list::cut;
 use crate::number::number;
 use crate::settings::Header;
@@ -67,7 +73,7 @@ fn fill_roots(list: NumberList<'_>, heap: &mut CheckedHeap)
 
 // Reads the lines of all objects once more, and fills the tables. The heap is empty, and the listing is known to be right.
 fn fill_objects<'t>(header: Header, text: &'t [u8], heap: &mut CheckedHeap) -> Result<&'t [u8], Fault>
-    requires fits { ⌜ ObjectsFit header (now text) (tablesOf (now heap)) ⌝ }
+    requires fits { ⌜ BodyFits header (now text) (tablesOf (now heap)) ⌝ }
     requires empty { ⌜ (now heap .objects ≡ 0) × (now heap .references ≡ 0) ⌝ }
     ensures filled { λ r. ⌜ Cases r (λ rest. ObjectsFilled header (now (text .entry)) (tablesOf (now (heap .entry))) (tablesOf (now (heap .exit))) (now rest)) (λ _. ⊥) ⌝ }
     ensures lenders { λ _. ⌜ SameLenders (now (heap .entry)) (now (heap .exit)) ⌝ }
@@ -87,4 +93,17 @@ fn fill_objects<'t>(header: Header, text: &'t [u8], heap: &mut CheckedHeap) -> R
         rest = behind;
     }
     Ok(rest)
+}
+
+// Reads the lines behind the header once more, and fills the tables. The heap is empty, and the listing is known to be right.
+pub fn fill_tables(header: Header, text: &[u8], heap: &mut CheckedHeap) -> Result<(), Fault>
+    requires fits { ⌜ BodyFits header (now text) (tablesOf (now heap)) ⌝ }
+    requires empty { ⌜ (now heap .objects ≡ 0) × (now heap .references ≡ 0) × (now heap .roots ≡ 0) ⌝ }
+    ensures filled { λ r. ⌜ Cases r (λ _. (x : Heap × Settings) → judgeText (Objects header [] (header .objects)) 6 (now (text .entry)) ≡ Ok x → tablesOf (now (heap .exit)) ≡ withHeap (x .0) (tablesOf (now (heap .entry)))) (λ _. ⊥) ⌝ }
+    ensures lenders { λ _. ⌜ SameLenders (now (heap .entry)) (now (heap .exit)) ⌝ }
+{
+    let rest = fill_objects(header, text, heap)?;
+    let (roots, _) = read_roots(rest, 6 + 3 * header.objects, header.objects)?;
+    fill_roots(roots, heap);
+    Ok(())
 }

@@ -7,5 +7,6 @@ pub mod line;
 pub mod lines;
 pub mod check;
 pub mod fill;
+pub mod reader;
 pub use settings::Settings;
 pub use settings::SharingRule;
