@@ -11,6 +11,7 @@ use Rattle.std.proofs.shelf.Lists.{length-append, length-drop, getD-append-left
 use Rattle.std.proofs.shelf.Sums.{sumBy-cons}
 use Rattle.std.proofs.shelf.Elements.{all-append, all-getD}
 use Rattle.heap.specs.declared.entry.ObjectEntry.{ObjectEntry}
+use Rattle.heap.specs.Kept.{Kept}
 use Rattle.heap.specs.Heap.{Object, Heap, Laid, Lawful, sectionsOf, referencesIn}
 use Rattle.heap.specs.Tables.{Tables, blank, entryAt, countedTo, objectIn, objectsIn, entriesFrom, referencesOf, filled, heapIn}
 
@@ -58,26 +59,6 @@ known-references : (cells most from : ℕ) (os : List Object) → Laid cells mos
 known-references cells most from [] laid = tt
 known-references cells most from (o ∷ os) laid =
     all-append (λ r. r ≤ most) (o .refs) (referencesOf os) (laid .3) (known-references cells most (o .at + o .len) os (laid .4))
-
--- a heap has room in tables
-pub record Holds (h : Heap) (t : Tables) : Type 0 where
-  pub objects : length (h .objects) ≤ length (t .object-table)
-  pub references : referencesIn (h .objects) ≤ length (t .reference-table)
-  pub roots : length (h .roots) ≤ length (t .root-table)
-
--- the law of a heap, place by place, as a checked heap has it
-pub record Kept (t : Tables) : Type 0 where
-  pub long : (1 ≤ t .cells) × (t .cells ≤ 65535)
-  pub wide : (1 ≤ t .width) × (t .width ≤ 65535)
-  pub cut : sectionsOf (t .cells) (t .width) ≤ 64
-  pub few : (t .objects ≤ 65535) × (t .references ≤ 262144) × (t .roots ≤ 4096)
-  pub held : (t .objects ≤ length (t .object-table)) × (t .references ≤ length (t .reference-table)) × (t .roots ≤ length (t .root-table))
-  pub inside : (k : ℕ) → k < t .objects → (1 ≤ entryAt (t .object-table) k .len) × (entryAt (t .object-table) k .at + entryAt (t .object-table) k .len ≤ t .cells)
-  pub apart : (k : ℕ) → k + 1 < t .objects → entryAt (t .object-table) k .at + entryAt (t .object-table) k .len ≤ entryAt (t .object-table) (k + 1) .at
-  pub follow : (k : ℕ) → k < t .objects → entryAt (t .object-table) k .first ≡ countedTo k (t .object-table)
-  pub counted : t .references ≡ countedTo (t .objects) (t .object-table)
-  pub known : (k : ℕ) → k < t .references → getD (t .reference-table) k 0 ≤ t .objects
-  pub rooted : (k : ℕ) → k < t .roots → getD (t .root-table) k 0 ≤ t .objects
 
 pub filled-kept : (h : Heap) (t : Tables) → Lawful h → Kept (filled h t)
 filled-kept h t law =

@@ -9,3 +9,5 @@ pub mod Checked
 pub mod Lists
 pub mod Tables
 pub mod Fewer
+pub mod Lawful
+pub mod Ready

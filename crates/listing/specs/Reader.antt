@@ -33,3 +33,17 @@ answered (Ok x) t = cond (roomIn (x .0) t) (Ok (x .1)) (Err (fault Memory 0))
 abbrev pub leftIn : Result (Heap × Settings) Fault → Tables → Tables
 leftIn (Err f) t = t
 leftIn (Ok x) t = cond (roomIn (x .0) t) (filled (x .0) t) t
+
+-- the tables with the numbers of a heap
+abbrev pub withTotals : Totals → Tables → Tables
+withTotals n t =
+    record
+    { cells = n .header .cells
+    ; width = n .header .width
+    ; objects = n .header .objects
+    ; references = n .references
+    ; roots = n .roots
+    ; object-table = t .object-table
+    ; reference-table = t .reference-table
+    ; root-table = t .root-table
+    }

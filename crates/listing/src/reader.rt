@@ -1,10 +1,11 @@
 ghost use mathlib.Core.Path.{_≡_};
 ghost use Prim.Native.Nat.{ℕ};
 ghost use Rattle.heap.specs.Handed.{tablesOf};
+ghost use Rattle.heap.specs.Kept.{Kept};
 ghost use Rattle.heap.specs.Tables.{emptyOver};
 ghost use Rattle.listing.specs.Judge.{judge};
 ghost use Rattle.listing.specs.Filling.{SameLenders};
-ghost use Rattle.listing.specs.Reader.{roomFor, answered, leftIn};
+ghost use Rattle.listing.specs.Reader.{roomFor, withTotals, answered, leftIn};
 use crate::check::Totals;
 use crate::check::check;
 use crate::fill::fill_tables;
@@ -30,4 +31,34 @@ fn has_room(heap: &CheckedHeap, totals: Totals) -> bool
     ensures { λ r. ⌜ r ≡ roomFor totals (tablesOf (now (heap .entry))) ⌝ }
 {
     totals.header.objects as usize <= heap.object_table.len() && totals.references <= heap.reference_table.len() && totals.roots <= heap.root_table.len()
+}
+
+// Sets the numbers of the heap, last of all: its tables hold it already.
+fn set_numbers(heap: &mut CheckedHeap, totals: Totals)
+    requires { ⌜ Kept (withTotals totals (tablesOf (now heap))) ⌝ }
+    ensures tables { λ _. ⌜ tablesOf (now (heap .exit)) ≡ withTotals totals (tablesOf (now (heap .entry))) ⌝ }
+    ensures lenders { λ _. ⌜ SameLenders (now (heap .entry)) (now (heap .exit)) ⌝ }
+{
+    heap.cells = totals.header.cells as usize;
+    heap.width = totals.header.width as usize;
+    heap.objects = totals.header.objects as usize;
+    heap.references = totals.references;
+    heap.roots = totals.roots;
+}
+
+// Reads a listing into the heap. The first faulty line is refused, and tables that are too short last, with line 0; a refusal leaves the
+// heap and every table as they were. An accepted listing fills just the places that it needs.
+pub fn read(text: &[u8], heap: &mut CheckedHeap) -> Result<Settings, Fault>
+    ensures answer { λ r. ⌜ r ≡ answered (judge (now (text .entry))) (tablesOf (now (heap .entry))) ⌝ }
+    ensures tables { λ r. ⌜ tablesOf (now (heap .exit)) ≡ leftIn (judge (now (text .entry))) (tablesOf (now (heap .entry))) ⌝ }
+    ensures lenders { λ r. ⌜ SameLenders (now (heap .entry)) (now (heap .exit)) ⌝ }
+{
+    let (totals, body) = check(text)?;
+    if !has_room(heap, totals) {
+        return Err(Fault { refusal: Refusal::Memory, line: 0 });
+    }
+    clear(heap);
+    fill_tables(totals.header, body, heap)?;
+    set_numbers(heap, totals);
+    Ok(Settings { markers: totals.header.markers as usize, share: totals.header.share })
 }
