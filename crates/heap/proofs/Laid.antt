@@ -67,43 +67,52 @@ counted-within es k n l q =
     let b′ = rw t at b in
     omega (arith, a, b′)
 
+-- the references of each object lie within the table
+room : (h : CheckedHeap) (k : ℕ) → k < h .objects → entryAt (now (h .«object_table»)) k .first + entryAt (now (h .«object_table»)) k .count ≤ h .references
+room h k l = omega (arith, h .follow k l, counted-within (now (h .«object_table»)) k (h .objects) l (h .held .0), h .counted)
+
+-- the numbers of a checked heap are those of the heap it stands for
+pub counts : (h : CheckedHeap) → (length (heapOf h .objects) ≡ h .objects) × (referencesIn (heapOf h .objects) ≡ h .references) × (length (heapOf h .roots) ≡ h .roots)
+counts h =
+    let table : List ObjectEntry = now (h .«object_table») in
+    let refs : List ℕ = now (h .«reference_table») in
+    let es : List ObjectEntry = take (h .objects) table in
+    let size : length es ≡ h .objects = length-take-le (h .objects) table (h .held .0) in
+    let e = references-by-place refs es
+      (λ k l. let l′ : k < h .objects = omega arith in rw (getD-take (h .objects) table k blank l′) (omega (arith, room h k l′, h .held .1))) in
+    (length-map es (objectIn refs) ∙ size, e ∙ sym (h .counted), length-take-le (h .roots) (now (h .«root_table»)) (h .held .2))
+
 -- a checked heap stands for a lawful heap
 pub lawful : (h : CheckedHeap) → Lawful (heapOf h)
 lawful h =
     let table : List ObjectEntry = now (h .«object_table») in
     let refs : List ℕ = now (h .«reference_table») in
+    let roots : List ℕ = now (h .«root_table») in
     let es : List ObjectEntry = take (h .objects) table in
     let size : length es ≡ h .objects = length-take-le (h .objects) table (h .held .0) in
-    let many : length (objectsIn refs es) ≡ h .objects = length-map es (objectIn refs) ∙ size in
+    let many = counts h in
     let at : (k : ℕ) → k < h .objects → entryAt es k ≡ entryAt table k = λ k l. getD-take (h .objects) table k blank l in
-    let room : (k : ℕ) → k < h .objects → entryAt table k .first + entryAt table k .count ≤ h .references =
-      λ k l. omega (arith, h .follow k l, counted-within table k (h .objects) l (h .held .0), h .counted) in
     record
     { cells = h .long
     ; width = h .wide
     ; sections = h .cut
-    ; objects = omega (arith, many, h .few .0)
+    ; objects = omega (arith, many .0, h .few .0)
     ; laid =
-        rw many
+        rw (many .0)
         (laid-by-place (h .cells) (h .objects) 0 refs es (λ k l. let l′ : k < h .objects = omega arith in rw (at k l′) (h .inside k l′))
           (λ k l.
             let l′ : k < h .objects = omega arith in
             let m : suc k < h .objects = omega arith in
             rw (at k l′, at (suc k) m) (subst (λ j. entryAt table k .at + entryAt table k .len ≤ entryAt table j .at) (add-one k) (h .apart k (omega arith))))
           (λ k l. let l′ : k < h .objects = omega arith in
-            rw (at k l′) (part-known refs _ _ (h .references) (h .objects) (h .known) (room k l′) (h .held .1)))
+            rw (at k l′) (part-known refs _ _ (h .references) (h .objects) (h .known) (room h k l′) (h .held .1)))
           (λ _. omega arith))
-    ; references =
-        let e = references-by-place refs es (λ k l. let l′ : k < h .objects = omega arith in rw (at k l′) (omega (arith, room k l′, h .held .1))) in
-        omega (arith, e, h .counted, h .few .1)
-    ; roots = omega (arith, length-take (h .roots) (now (h .«root_table»)), h .few .2)
+    ; references = omega (arith, many .1, h .few .1)
+    ; roots = omega (arith, many .2, h .few .2)
     ; rooted =
-        rw many
-        (all-from-getD (λ r. r ≤ h .objects) (take (h .roots) (now (h .«root_table»))) 0
-          (λ i l.
-            let n = length-take (h .roots) (now (h .«root_table»)) in
-            let l′ : i < h .roots = omega arith in
-            rw (getD-take (h .roots) (now (h .«root_table»)) i 0 l′) (h .rooted i l′)))
+        rw (many .0)
+        (all-from-getD (λ r. r ≤ h .objects) (take (h .roots) roots) 0
+          (λ i l. let l′ : i < h .roots = omega (arith, many .2) in rw (getD-take (h .roots) roots i 0 l′) (h .rooted i l′)))
     }
 
 cells-by-entry : (refs : List ℕ) (es : List ObjectEntry) → cellsIn (objectsIn refs es) ≡ sumBy (λ e. e .len) es
