@@ -68,32 +68,32 @@ filled-kept h t law =
     let size : length es ≡ length os = length-entries 0 os in
     let at : (k : ℕ) → k < length os → entryAt (es ++ behind) k ≡ entryAt es k = λ k l. getD-append-left es behind blank k (omega arith) in
     let to : (k : ℕ) → k ≤ length os → countedTo k (es ++ behind) ≡ countedTo k es =
-      λ k l. ap (sumBy (λ e. e .count)) (take-append-le k es behind (omega arith)) in
-    record
-    { long = law .cells
-    ; wide = law .width
-    ; cut = law .sections
-    ; few = (law .objects, law .references, law .roots)
-    ; held =
-        ( omega (arith, length-append es behind, size)
-        , omega (arith, length-append (referencesOf os) (drop (referencesIn os) (t .reference-table)), length-references os)
-        , omega (arith, length-append (h .roots) (drop (length (h .roots)) (t .root-table)))
-        )
-    ; inside = λ k l. rw (at k l) (inside-entries _ _ 0 0 os (law .laid) k l)
-    ; apart =
-        λ k l.
-        let l′ : k < length os = omega arith in
-        let m : suc k < length os = omega arith in
-        rw (add-one, at k l′, at (suc k) m) (apart-entries _ _ 0 0 os (law .laid) k m)
-    ; follow = λ k l. rw (at k l) (follow-entries 0 os k l ∙ zero-add _ ∙ sym (to k (omega arith)))
-    ; counted =
-        let e : countedTo (length os) es ≡ referencesIn os = ap (sumBy (λ e. e .count)) (take-all (length os) es (omega arith)) ∙ counted-entries 0 os in
-        sym (to (length os) (omega arith) ∙ e)
-    ; known =
-        λ k l.
-        let l′ : k < length (referencesOf os) = omega (arith, length-references os) in
-        rw (getD-append-left (referencesOf os) _ 0 k l′) (all-getD (λ r. r ≤ length os) (referencesOf os) k 0 l′ (known-references _ _ 0 os (law .laid)))
-    ; rooted = λ k l. rw (getD-append-left (h .roots) _ 0 k l) (all-getD (λ r. r ≤ length os) (h .roots) k 0 l (law .rooted))
+    λ k l. ap (sumBy (λ e. e .count)) (take-append-le k es behind (omega arith)) in
+    record {
+      long = law .cells;
+      wide = law .width;
+      cut = law .sections;
+      few = (law .objects, law .references, law .roots);
+      held = (
+        omega (arith, length-append es behind, size),
+        omega (arith, length-append (referencesOf os) (drop (referencesIn os) (t .reference-table)), length-references os),
+        omega (arith, length-append (h .roots) (drop (length (h .roots)) (t .root-table))),
+      );
+      inside = λ k l. rw (at k l) (inside-entries _ _ 0 0 os (law .laid) k l);
+      apart =
+          λ k l.
+          let l′ : k < length os = omega arith in
+          let m : suc k < length os = omega arith in
+          rw (add-one, at k l′, at (suc k) m) (apart-entries _ _ 0 0 os (law .laid) k m);
+      follow = λ k l. rw (at k l) (follow-entries 0 os k l ∙ zero-add _ ∙ sym (to k (omega arith)));
+      counted =
+          let e : countedTo (length os) es ≡ referencesIn os = ap (sumBy (λ e. e .count)) (take-all (length os) es (omega arith)) ∙ counted-entries 0 os in
+          sym (to (length os) (omega arith) ∙ e);
+      known =
+          λ k l.
+          let l′ : k < length (referencesOf os) = omega (arith, length-references os) in
+          rw (getD-append-left (referencesOf os) _ 0 k l′) (all-getD (λ r. r ≤ length os) (referencesOf os) k 0 l′ (known-references _ _ 0 os (law .laid)));
+      rooted = λ k l. rw (getD-append-left (h .roots) _ 0 k l) (all-getD (λ r. r ≤ length os) (h .roots) k 0 l (law .rooted));
     }
 
 -- the entries of objects, over a reference table that holds their references from `first` on, give the objects back
@@ -102,14 +102,14 @@ objects-back : (os : List Object) (first : ℕ) (before behind refs : List ℕ) 
 objects-back [] first before behind refs f e = refl
 objects-back (o ∷ os) first before behind refs f e =
     let own : drop first refs ≡ o .refs ++ (referencesOf os ++ behind) =
-      ap (drop first) e ∙ drop-at before _ first (sym f) ∙ append-assoc (o .refs) (referencesOf os) behind in
+    ap (drop first) e ∙ drop-at before _ first (sym f) ∙ append-assoc (o .refs) (referencesOf os) behind in
     let got : take (length (o .refs)) (drop first refs) ≡ o .refs = ap (take (length (o .refs))) own ∙ take-at (o .refs) _ _ refl in
     let next : first + length (o .refs) ≡ length (before ++ o .refs) = omega (arith, f, length-append before (o .refs)) in
     let more : refs ≡ (before ++ o .refs) ++ (referencesOf os ++ behind) =
-      e ∙ ap (λ xs. before ++ xs) (append-assoc (o .refs) (referencesOf os) behind) ∙ sym (append-assoc before (o .refs) (referencesOf os ++ behind)) in
+    e ∙ ap (λ xs. before ++ xs) (append-assoc (o .refs) (referencesOf os) behind) ∙ sym (append-assoc before (o .refs) (referencesOf os ++ behind)) in
     let rest = objects-back os (first + length (o .refs)) (before ++ o .refs) behind refs next more in
     let here : objectIn refs (record { at = o .at; len = o .len; first = first; count = length (o .refs) }) ≡ o =
-      ap (λ xs. record { at = o .at; len = o .len; refs = xs }) got in
+    ap (λ xs. record { at = o .at; len = o .len; refs = xs }) got in
     ap (λ p. p ∷ objectsIn refs (entriesFrom (first + length (o .refs)) os)) here ∙ ap (λ xs. o ∷ xs) rest
 
 -- tables that were filled with a heap hold it
@@ -118,8 +118,8 @@ heap-back h t =
     let os : List Object = h .objects in
     let a : take (length os) (entriesFrom 0 os ++ drop (length os) (t .object-table)) ≡ entriesFrom 0 os = take-at (entriesFrom 0 os) _ _ (length-entries 0 os) in
     let b : objectsIn (filled h t .reference-table) (entriesFrom 0 os) ≡ os =
-      objects-back os 0 [] (drop (referencesIn os) (t .reference-table)) (filled h t .reference-table) refl refl in
+    objects-back os 0 [] (drop (referencesIn os) (t .reference-table)) (filled h t .reference-table) refl refl in
     let c : take (length (h .roots)) (filled h t .root-table) ≡ h .roots = take-at (h .roots) _ _ refl in
     ap (λ xs. record { cells = h .cells; width = h .width; objects = xs; roots = take (length (h .roots)) (filled h t .root-table) })
-      (ap (objectsIn (filled h t .reference-table)) a ∙ b)
+    (ap (objectsIn (filled h t .reference-table)) a ∙ b)
     ∙ ap (λ xs. record { cells = h .cells; width = h .width; objects = os; roots = xs }) c

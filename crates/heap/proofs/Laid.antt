@@ -22,10 +22,10 @@ part-known : (refs : List ℕ) (first count n most : ℕ) → ((k : ℕ) → k <
 part-known refs first count n most f p q =
     all-from-getD (λ r. r ≤ most) (take count (drop first refs)) 0
     (λ i l.
-      let len = length-take count (drop first refs) in
-      let len′ = length-drop first refs in
-      let lt : i < count = omega arith in
-      rw (getD-take count (drop first refs) i 0 lt, getD-drop first refs i 0) (f (first + i) (omega arith)))
+    let len = length-take count (drop first refs) in
+    let len′ = length-drop first refs in
+    let lt : i < count = omega arith in
+    rw (getD-take count (drop first refs) i 0 lt, getD-drop first refs i 0) (f (first + i) (omega arith)))
 
 pub laid-by-place
     : (cells most from : ℕ) (refs : List ℕ) (es : List ObjectEntry)
@@ -35,14 +35,14 @@ pub laid-by-place
     → (0 < length es → from ≤ entryAt es 0 .at)
     → Laid cells most from (objectsIn refs es)
 laid-by-place cells most from refs [] inside apart known begins = tt
-laid-by-place cells most from refs (e ∷ es) inside apart known begins =
-    ( begins (omega arith)
-    , inside 0 (omega arith) .0
-    , inside 0 (omega arith) .1
-    , known 0 (omega arith)
-    , laid-by-place cells most (e .at + e .len) refs es (λ k l. inside (suc k) (omega arith)) (λ k l. apart (suc k) (omega arith))
-      (λ k l. known (suc k) (omega arith)) (λ l. apart 0 (omega arith))
-    )
+laid-by-place cells most from refs (e ∷ es) inside apart known begins = (
+  begins (omega arith),
+  inside 0 (omega arith) .0,
+  inside 0 (omega arith) .1,
+  known 0 (omega arith),
+  laid-by-place cells most (e .at + e .len) refs es (λ k l. inside (suc k) (omega arith)) (λ k l. apart (suc k) (omega arith))
+      (λ k l. known (suc k) (omega arith)) (λ l. apart 0 (omega arith)),
+)
 
 references-by-place : (refs : List ℕ) (es : List ObjectEntry) → ((k : ℕ) → k < length es → entryAt es k .first + entryAt es k .count ≤ length refs)
     → referencesIn (objectsIn refs es) ≡ sumBy (λ e. e .count) es
@@ -79,7 +79,7 @@ counts h =
     let es : List ObjectEntry = take (h .objects) table in
     let size : length es ≡ h .objects = length-take-le (h .objects) table (h .held .0) in
     let e = references-by-place refs es
-      (λ k l. let l′ : k < h .objects = omega arith in rw (getD-take (h .objects) table k blank l′) (omega (arith, room h k l′, h .held .1))) in
+    (λ k l. let l′ : k < h .objects = omega arith in rw (getD-take (h .objects) table k blank l′) (omega (arith, room h k l′, h .held .1))) in
     (length-map es (objectIn refs) ∙ size, e ∙ sym (h .counted), length-take-le (h .roots) (now (h .«root_table»)) (h .held .2))
 
 -- a checked heap stands for a lawful heap
@@ -92,27 +92,27 @@ lawful h =
     let size : length es ≡ h .objects = length-take-le (h .objects) table (h .held .0) in
     let many = counts h in
     let at : (k : ℕ) → k < h .objects → entryAt es k ≡ entryAt table k = λ k l. getD-take (h .objects) table k blank l in
-    record
-    { cells = h .long
-    ; width = h .wide
-    ; sections = h .cut
-    ; objects = omega (arith, many .0, h .few .0)
-    ; laid =
-        rw (many .0)
-        (laid-by-place (h .cells) (h .objects) 0 refs es (λ k l. let l′ : k < h .objects = omega arith in rw (at k l′) (h .inside k l′))
+    record {
+      cells = h .long;
+      width = h .wide;
+      sections = h .cut;
+      objects = omega (arith, many .0, h .few .0);
+      laid =
+          rw (many .0)
+          (laid-by-place (h .cells) (h .objects) 0 refs es (λ k l. let l′ : k < h .objects = omega arith in rw (at k l′) (h .inside k l′))
           (λ k l.
-            let l′ : k < h .objects = omega arith in
-            let m : suc k < h .objects = omega arith in
-            rw (at k l′, at (suc k) m) (subst (λ j. entryAt table k .at + entryAt table k .len ≤ entryAt table j .at) (add-one k) (h .apart k (omega arith))))
+          let l′ : k < h .objects = omega arith in
+          let m : suc k < h .objects = omega arith in
+          rw (at k l′, at (suc k) m) (subst (λ j. entryAt table k .at + entryAt table k .len ≤ entryAt table j .at) (add-one k) (h .apart k (omega arith))))
           (λ k l. let l′ : k < h .objects = omega arith in
-            rw (at k l′) (part-known refs _ _ (h .references) (h .objects) (h .known) (room h k l′) (h .held .1)))
-          (λ _. omega arith))
-    ; references = omega (arith, many .1, h .few .1)
-    ; roots = omega (arith, many .2, h .few .2)
-    ; rooted =
-        rw (many .0)
-        (all-from-getD (λ r. r ≤ h .objects) (take (h .roots) roots) 0
-          (λ i l. let l′ : i < h .roots = omega (arith, many .2) in rw (getD-take (h .roots) roots i 0 l′) (h .rooted i l′)))
+          rw (at k l′) (part-known refs _ _ (h .references) (h .objects) (h .known) (room h k l′) (h .held .1)))
+          (λ _. omega arith));
+      references = omega (arith, many .1, h .few .1);
+      roots = omega (arith, many .2, h .few .2);
+      rooted =
+          rw (many .0)
+          (all-from-getD (λ r. r ≤ h .objects) (take (h .roots) roots) 0
+          (λ i l. let l′ : i < h .roots = omega (arith, many .2) in rw (getD-take (h .roots) roots i 0 l′) (h .rooted i l′)));
     }
 
 cells-by-entry : (refs : List ℕ) (es : List ObjectEntry) → cellsIn (objectsIn refs es) ≡ sumBy (λ e. e .len) es

@@ -6,15 +6,15 @@ use Rattle.heap.specs.Tables.{Tables, heapIn}
 
 abbrev pub tablesOf : CheckedHeap → Tables
 tablesOf h =
-    record
-    { cells = h .cells
-    ; width = h .width
-    ; objects = h .objects
-    ; references = h .references
-    ; roots = h .roots
-    ; object-table = now (h .«object_table»)
-    ; reference-table = now (h .«reference_table»)
-    ; root-table = now (h .«root_table»)
+    record {
+      cells = h .cells;
+      width = h .width;
+      objects = h .objects;
+      references = h .references;
+      roots = h .roots;
+      object-table = now (h .«object_table»);
+      reference-table = now (h .«reference_table»);
+      root-table = now (h .«root_table»);
     }
 
 abbrev pub heapOf : CheckedHeap → Heap

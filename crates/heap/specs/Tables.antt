@@ -38,11 +38,11 @@ pub record Tables : Type 0 where
 -- the heap that they stand for
 abbrev pub heapIn : Tables → Heap
 heapIn t =
-    record
-    { cells = t .cells
-    ; width = t .width
-    ; objects = objectsIn (t .reference-table) (take (t .objects) (t .object-table))
-    ; roots = take (t .roots) (t .root-table)
+    record {
+      cells = t .cells;
+      width = t .width;
+      objects = objectsIn (t .reference-table) (take (t .objects) (t .object-table));
+      roots = take (t .roots) (t .root-table);
     }
 
 -- one entry an object, in order; the references of each follow those of the one before
@@ -58,27 +58,27 @@ referencesOf os = joined (λ o. o .refs) os
 -- the tables once they hold the heap h: it fills just the places that it needs, and what lies behind them stays
 abbrev pub filled : Heap → Tables → Tables
 filled h t =
-    record
-    { cells = h .cells
-    ; width = h .width
-    ; objects = length (h .objects)
-    ; references = referencesIn (h .objects)
-    ; roots = length (h .roots)
-    ; object-table = entriesFrom 0 (h .objects) ++ drop (length (h .objects)) (t .object-table)
-    ; reference-table = referencesOf (h .objects) ++ drop (referencesIn (h .objects)) (t .reference-table)
-    ; root-table = h .roots ++ drop (length (h .roots)) (t .root-table)
+    record {
+      cells = h .cells;
+      width = h .width;
+      objects = length (h .objects);
+      references = referencesIn (h .objects);
+      roots = length (h .roots);
+      object-table = entriesFrom 0 (h .objects) ++ drop (length (h .objects)) (t .object-table);
+      reference-table = referencesOf (h .objects) ++ drop (referencesIn (h .objects)) (t .reference-table);
+      root-table = h .roots ++ drop (length (h .roots)) (t .root-table);
     }
 
 -- the empty heap: one cell, width 1, nothing in it
 abbrev pub emptyOver : List ObjectEntry → List ℕ → List ℕ → Tables
 emptyOver entries references roots =
-    record
-    { cells = 1
-    ; width = 1
-    ; objects = 0
-    ; references = 0
-    ; roots = 0
-    ; object-table = entries
-    ; reference-table = references
-    ; root-table = roots
+    record {
+      cells = 1;
+      width = 1;
+      objects = 0;
+      references = 0;
+      roots = 0;
+      object-table = entries;
+      reference-table = references;
+      root-table = roots;
     }

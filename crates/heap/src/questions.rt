@@ -9,10 +9,23 @@ use crate::entry::ObjectEntry;
 
 impl<'a> CheckedHeap<'a> {
     // The empty heap over any tables: one cell, width 1, nothing in it.
-    pub fn empty(object_table: &'a mut [ObjectEntry], reference_table: &'a mut [u16], root_table: &'a mut [u16]) -> CheckedHeap<'a>
+    pub fn empty(
+        object_table: &'a mut [ObjectEntry],
+        reference_table: &'a mut [u16],
+        root_table: &'a mut [u16],
+    ) -> CheckedHeap<'a>
         ensures { λ r. ⌜ tablesOf r ≡ emptyOver (now («object_table» .entry)) (now («reference_table» .entry)) (now («root_table» .entry)) ⌝ }
     {
-        CheckedHeap { cells: 1, width: 1, objects: 0, references: 0, roots: 0, object_table, reference_table, root_table }
+        CheckedHeap {
+            cells: 1,
+            width: 1,
+            objects: 0,
+            references: 0,
+            roots: 0,
+            object_table,
+            reference_table,
+            root_table,
+        }
     }
 
     // The number of sections, 1 to 64. Asked of any checked heap, the law holds.

@@ -59,14 +59,14 @@ accepted-read text rest behind list last h references count e o g z n =
     let a : h .objects ≡ length (o .done) = sym (o .long) in
     let b : references ≡ referencesIn (o .done) = sym (o .counted) in
     let w = whole-read text rest behind list last h references count e o g z in
-    record
-    { heap = heapRead h (o .done) (numbers list)
-    ; judged = w
-    ; totals =
-        ap (λ m. record { header = record { cells = h .cells; width = h .width; markers = h .markers; share = h .share; objects = m }; references = references; roots = count }) a
-        ∙ ap (λ m. record { header = totalsOf (heapRead h (o .done) (numbers list)) .header; references = m; roots = count }) b
-        ∙ ap (λ m. record { header = totalsOf (heapRead h (o .done) (numbers list)) .header; references = referencesIn (o .done); roots = m }) n
-    ; behind = sym (headed text rest h e) ∙ w
+    record {
+      heap = heapRead h (o .done) (numbers list);
+      judged = w;
+      totals =
+          ap (λ m. record { header = record { cells = h .cells; width = h .width; markers = h .markers; share = h .share; objects = m }; references = references; roots = count }) a
+          ∙ ap (λ m. record { header = totalsOf (heapRead h (o .done) (numbers list)) .header; references = m; roots = count }) b
+          ∙ ap (λ m. record { header = totalsOf (heapRead h (o .done) (numbers list)) .header; references = referencesIn (o .done); roots = m }) n;
+      behind = sym (headed text rest h e) ∙ w;
     }
 
 pub more-behind : (text rest behind list last : List ℕ) (h : Header) (references count : ℕ) → readHeader text ≡ Ok (h, rest) → (o : ObjectsRead h rest references behind)
@@ -80,9 +80,9 @@ pub same-heap : (h : Header) (done : List Object) (n count : ℕ) (rest list las
     → readRoots n (h .objects) rest ≡ Ok ((count, list), last) → x ≡ heapRead h done (numbers list)
 same-heap h done n count rest list last x e g = by last (sym e ∙ roots-go h done n rest ∙ ap (λ r. then r (λ p. judgeText (Roots h done (numbers (p .0 .1))) (n + 1) (p .1))) g ∙ ends-there h done (numbers list) (n + 1) last)
   where
-  by : (last : List ℕ) → Ok x ≡ ending (n + 1) (whole (Roots h done (numbers list))) last → x ≡ heapRead h done (numbers list)
-  by [] q = cc
-  by (b ∷ bs) q = let z : _≡_ {A = ℕ} 0 1 = cc in absurd (omega arith)
+    by : (last : List ℕ) → Ok x ≡ ending (n + 1) (whole (Roots h done (numbers list))) last → x ≡ heapRead h done (numbers list)
+    by [] q = cc
+    by (b ∷ bs) q = let z : _≡_ {A = ℕ} 0 1 = cc in absurd (omega arith)
 
 pub no-root-fault : (h : Header) (done : List Object) (n : ℕ) (rest : List ℕ) (x : Heap × Settings) (f : Fault) → judgeText (Objects h done 0) n rest ≡ Ok x
     → readRoots n (h .objects) rest ≡ Err f → ⊥

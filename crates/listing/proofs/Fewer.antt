@@ -36,12 +36,12 @@ said-after : (k k′ : Before) (v : Option (List ℕ)) → judgeValue k v ≡ Ok
 said-after k k′ None e = let z : _≡_ {A = ℕ} 0 1 = cc in absurd (omega arith)
 said-after k k′ (Some t) e = (t, by (formed k t) (bounded k t) (apart k t) (known k t) e)
   where
-  by : (a b c d : Bool) → cond a (cond b (cond c (cond d (Ok (after k t)) (Err Stranger)) (Err Overlap)) (Err Range)) (Err Form) ≡ Ok k′ → k′ ≡ after k t
-  by true true true true e = cc
-  by true true true false e = let z : _≡_ {A = ℕ} 0 1 = cc in absurd (omega arith)
-  by true true false d e = let z : _≡_ {A = ℕ} 0 1 = cc in absurd (omega arith)
-  by true false c d e = let z : _≡_ {A = ℕ} 0 1 = cc in absurd (omega arith)
-  by false b c d e = let z : _≡_ {A = ℕ} 0 1 = cc in absurd (omega arith)
+    by : (a b c d : Bool) → cond a (cond b (cond c (cond d (Ok (after k t)) (Err Stranger)) (Err Overlap)) (Err Range)) (Err Form) ≡ Ok k′ → k′ ≡ after k t
+    by true true true true e = cc
+    by true true true false e = let z : _≡_ {A = ℕ} 0 1 = cc in absurd (omega arith)
+    by true true false d e = let z : _≡_ {A = ℕ} 0 1 = cc in absurd (omega arith)
+    by true false c d e = let z : _≡_ {A = ℕ} 0 1 = cc in absurd (omega arith)
+    by false b c d e = let z : _≡_ {A = ℕ} 0 1 = cc in absurd (omega arith)
 
 -- no line takes an object away
 keeps : (k : Before) (v : List ℕ) → referencesIn (saidObjects k) ≤ referencesIn (saidObjects (after k v))
@@ -79,14 +79,14 @@ within-lines [] k n x e = let z : _≡_ {A = ℕ} 0 1 = cc in absurd (omega arit
 within-lines (rest ∷ []) k n x e = at-the-end k n rest x e
 within-lines (line ∷ next ∷ more) k n x e = by (judgeLine k line) refl e (λ k′. within-lines (next ∷ more) k′ (n + 1) x)
   where
-  by : (r : Result Before Refusal) → judgeLine k line ≡ r → then (onLine n r) (λ k′. judgeFrom k′ (n + 1) (next ∷ more)) ≡ Ok x
-    → ((k′ : Before) → judgeFrom k′ (n + 1) (next ∷ more) ≡ Ok x → referencesIn (saidObjects k′) ≤ referencesIn (x .0 .objects))
-    → referencesIn (saidObjects k) ≤ referencesIn (x .0 .objects)
-  by (Err y) j e on = let z : _≡_ {A = ℕ} 0 1 = cc in absurd (omega arith)
-  by (Ok k′) j e on =
-    let s = said-after k k′ (valueIn (keyDue k) line) j in
-    let m : referencesIn (saidObjects k′) ≡ referencesIn (saidObjects (after k (s .0))) = ap (λ z. referencesIn (saidObjects z)) (s .1) in
-    omega (arith, on k′ e, keeps k (s .0), m)
+    by : (r : Result Before Refusal) → judgeLine k line ≡ r → then (onLine n r) (λ k′. judgeFrom k′ (n + 1) (next ∷ more)) ≡ Ok x
+        → ((k′ : Before) → judgeFrom k′ (n + 1) (next ∷ more) ≡ Ok x → referencesIn (saidObjects k′) ≤ referencesIn (x .0 .objects))
+        → referencesIn (saidObjects k) ≤ referencesIn (x .0 .objects)
+    by (Err y) j e on = let z : _≡_ {A = ℕ} 0 1 = cc in absurd (omega arith)
+    by (Ok k′) j e on =
+        let s = said-after k k′ (valueIn (keyDue k) line) j in
+        let m : referencesIn (saidObjects k′) ≡ referencesIn (saidObjects (after k (s .0))) = ap (λ z. referencesIn (saidObjects z)) (s .1) in
+        omega (arith, on k′ e, keeps k (s .0), m)
 
 -- the references read so far are no more than the heap's
 pub references-within : (k : Before) (n : ℕ) (text : List ℕ) (x : Heap × Settings) → judgeText k n text ≡ Ok x → referencesIn (saidObjects k) ≤ referencesIn (x .0 .objects)

@@ -9,5 +9,11 @@ pub mod Checked
 pub mod Lists
 pub mod Tables
 pub mod Fewer
-pub mod Lawful
+pub mod Refusing
+pub mod Mended
+pub mod Decimals
+pub mod Saying
+pub mod Reread
+pub mod Accepting
 pub mod Ready
+pub mod Promised

@@ -24,9 +24,9 @@ afterNumbers (suc i) text = afterNumbers i (valueOr (past 44 text) [])
 pub after-more : (i : ℕ) (text : List ℕ) → afterNumbers (i + 1) text ≡ valueOr (past 44 (afterNumbers i text)) []
 after-more i text = ap (λ m. afterNumbers m text) (add-one i) ∙ shift i text
   where
-  shift : (i : ℕ) (text : List ℕ) → afterNumbers (suc i) text ≡ valueOr (past 44 (afterNumbers i text)) []
-  shift zero text = refl
-  shift (suc i) text = shift i (valueOr (past 44 text) [])
+    shift : (i : ℕ) (text : List ℕ) → afterNumbers (suc i) text ≡ valueOr (past 44 (afterNumbers i text)) []
+    shift zero text = refl
+    shift (suc i) text = shift i (valueOr (past 44 text) [])
 
 -- what stands at place i of the numbers
 at-place : (i : ℕ) (text : List ℕ) → i < length (pieces 44 text) → allNumerals (pieces 44 text) ≡ true
@@ -36,18 +36,18 @@ at-place zero text l f =
     (and-parts (numeral (upTo 44 text)) (allNumerals (piecesOf 44 (past 44 text))) (sym (ap allNumerals e) ∙ f) .0, ap (λ ps. getD (map valueOf ps) 0 0) e)
 at-place (suc i) text l f = by (past 44 text) refl (λ ys. at-place i ys)
   where
-  by : (o : Option (List ℕ)) → past 44 text ≡ o
-    → ((ys : List ℕ) → i < length (pieces 44 ys) → allNumerals (pieces 44 ys) ≡ true
-      → (numeral (upTo 44 (afterNumbers i ys)) ≡ true) × (getD (map valueOf (pieces 44 ys)) i 0 ≡ valueOf (upTo 44 (afterNumbers i ys))))
-    → (numeral (upTo 44 (afterNumbers (suc i) text)) ≡ true) × (getD (map valueOf (pieces 44 text)) (suc i) 0 ≡ valueOf (upTo 44 (afterNumbers (suc i) text)))
-  by None e next = absurd (omega (arith, ap length (pieces-last 44 text (upTo 44 text) refl (sym e))))
-  by (Some ys) e next =
-    let p = pieces-more 44 text (upTo 44 text) ys refl (sym e) in
-    let a : afterNumbers (suc i) text ≡ afterNumbers i ys = ap (λ o. afterNumbers i (valueOr o [])) e in
-    let n : length (pieces 44 text) ≡ suc (length (pieces 44 ys)) = ap length p in
-    let l′ : i < length (pieces 44 ys) = omega arith in
-    let r = next ys l′ (and-parts (numeral (upTo 44 text)) (allNumerals (pieces 44 ys)) (sym (ap allNumerals p) ∙ f) .1) in
-    (ap (λ t. numeral (upTo 44 t)) a ∙ r .0, ap (λ ps. getD (map valueOf ps) (suc i) 0) p ∙ r .1 ∙ sym (ap (λ t. valueOf (upTo 44 t)) a))
+    by : (o : Option (List ℕ)) → past 44 text ≡ o
+        → ((ys : List ℕ) → i < length (pieces 44 ys) → allNumerals (pieces 44 ys) ≡ true
+        → (numeral (upTo 44 (afterNumbers i ys)) ≡ true) × (getD (map valueOf (pieces 44 ys)) i 0 ≡ valueOf (upTo 44 (afterNumbers i ys))))
+        → (numeral (upTo 44 (afterNumbers (suc i) text)) ≡ true) × (getD (map valueOf (pieces 44 text)) (suc i) 0 ≡ valueOf (upTo 44 (afterNumbers (suc i) text)))
+    by None e next = absurd (omega (arith, ap length (pieces-last 44 text (upTo 44 text) refl (sym e))))
+    by (Some ys) e next =
+        let p = pieces-more 44 text (upTo 44 text) ys refl (sym e) in
+        let a : afterNumbers (suc i) text ≡ afterNumbers i ys = ap (λ o. afterNumbers i (valueOr o [])) e in
+        let n : length (pieces 44 text) ≡ suc (length (pieces 44 ys)) = ap length p in
+        let l′ : i < length (pieces 44 ys) = omega arith in
+        let r = next ys l′ (and-parts (numeral (upTo 44 text)) (allNumerals (pieces 44 ys)) (sym (ap allNumerals p) ∙ f) .1) in
+        (ap (λ t. numeral (upTo 44 t)) a ∙ r .0, ap (λ ps. getD (map valueOf ps) (suc i) 0) p ∙ r .1 ∙ sym (ap (λ t. valueOf (upTo 44 t)) a))
 
 pub getD-largest : (xs : List ℕ) (i : ℕ) → getD xs i 0 ≤ largest xs
 getD-largest [] i = omega arith

@@ -32,14 +32,14 @@ pub record Objects-so-far (h : Header) (text : List ℕ) (i number end reference
 abbrev pub none-so-far : (h : Header) (text : List ℕ) → Objects-so-far h text 0 6 0 0 text
 none-so-far h text =
     let z : h .objects ≡ h .objects - 0 = omega arith in
-    record
-    { done = []
-    ; long = refl
-    ; ends = refl
-    ; counted = refl
-    ; few = omega arith
-    ; numbered = refl
-    ; judged = ap (λ m. judgeText (Objects h [] m) 6 text) z
+    record {
+      done = [];
+      long = refl;
+      ends = refl;
+      counted = refl;
+      few = omega arith;
+      numbered = refl;
+      judged = ap (λ m. judgeText (Objects h [] m) 6 text) z;
     }
 
 pub end-push : (from : ℕ) (os : List Object) (o : Object) → endFrom from (os ++ o ∷ []) ≡ o .at + o .len
@@ -58,8 +58,8 @@ next-object h text i number end references rest s l =
     ∙ ap (λ e. then (readObject h e (referencesIn (s .done)) number rest) after) (s .ends)
     ∙ ap (λ n. then (readObject h end n number rest) after) (s .counted)
   where
-  after : (ℕ × ℕ × (ℕ × List ℕ)) × List ℕ → Result (Heap × Settings) Fault
-  after p = judgeText (Objects h (s .done ++ objectRead (p .0) ∷ []) (h .objects - (i + 1))) (number + 3) (p .1)
+    after : (ℕ × ℕ × (ℕ × List ℕ)) × List ℕ → Result (Heap × Settings) Fault
+    after p = judgeText (Objects h (s .done ++ objectRead (p .0) ∷ []) (h .objects - (i + 1))) (number + 3) (p .1)
 
 abbrev pub one-more-so-far : (h : Header) (text : List ℕ) (i number end references : ℕ) (rest : List ℕ) (at len count : ℕ) (list behind : List ℕ)
     → Objects-so-far h text i number end references rest → i < h .objects
@@ -67,16 +67,16 @@ abbrev pub one-more-so-far : (h : Header) (text : List ℕ) (i number end refere
     → Objects-so-far h text (i + 1) (number + 3) (at + len) (references + count) behind
 one-more-so-far h text i number end references rest at len count list behind s l e n f =
     let o : Object = objectRead (at, len, (count, list)) in
-    record
-    { done = s .done ++ o ∷ []
-    ; long = length-push (s .done) o ∙ ap (λ m. m + 1) (s .long)
-    ; ends = end-push 0 (s .done) o
-    ; counted = omega (arith, sumBy-push {X = Object} (λ o. length (o .refs)) (s .done) o, s .counted, n)
-    ; few = f
-    ; numbered = omega (arith, s .numbered)
-    ; judged =
-        next-object h text i number end references rest s l
-        ∙ ap (λ r. then r (λ p. judgeText (Objects h (s .done ++ objectRead (p .0) ∷ []) (h .objects - (i + 1))) (number + 3) (p .1))) e
+    record {
+      done = s .done ++ o ∷ [];
+      long = length-push (s .done) o ∙ ap (λ m. m + 1) (s .long);
+      ends = end-push 0 (s .done) o;
+      counted = omega (arith, sumBy-push {X = Object} (λ o. length (o .refs)) (s .done) o, s .counted, n);
+      few = f;
+      numbered = omega (arith, s .numbered);
+      judged =
+          next-object h text i number end references rest s l
+          ∙ ap (λ r. then r (λ p. judgeText (Objects h (s .done ++ objectRead (p .0) ∷ []) (h .objects - (i + 1))) (number + 3) (p .1))) e;
     }
 
 pub stop-so-far : (h : Header) (text : List ℕ) (i number end references : ℕ) (rest : List ℕ) (f : Fault)
@@ -91,9 +91,9 @@ pub all-so-far : (h : Header) (text : List ℕ) (i number end references : ℕ) 
 all-so-far h text i number end references rest s e =
     let left : h .objects - i ≡ 0 = omega arith in
     let n : number ≡ 6 + 3 * h .objects = omega (arith, s .numbered) in
-    record
-    { done = s .done
-    ; long = s .long ∙ e
-    ; counted = s .counted
-    ; judged = s .judged ∙ ap (λ m. judgeText (Objects h (s .done) m) number rest) left ∙ ap (λ m. judgeText (Objects h (s .done) 0) m rest) n
+    record {
+      done = s .done;
+      long = s .long ∙ e;
+      counted = s .counted;
+      judged = s .judged ∙ ap (λ m. judgeText (Objects h (s .done) m) number rest) left ∙ ap (λ m. judgeText (Objects h (s .done) 0) m rest) n;
     }

@@ -60,7 +60,7 @@ survey-last s xs p n e f g =
     let a : s .count + 1 ≡ s .count + 1 + 0 = omega arith in
     let b : max (s .largest) n ≡ max (max (s .largest) n) 0 = omega arith in
     let start : Some (record { count = s .count + 1; largest = max (s .largest) n }) ≡ surveyAfter (record { count = s .count + 1; largest = max (s .largest) n }) [] =
-      ap (λ k. Some (record { count = k; largest = max (s .largest) n })) a ∙ ap (λ k. Some (record { count = s .count + 1 + 0; largest = k })) b in
+    ap (λ k. Some (record { count = k; largest = max (s .largest) n })) a ∙ ap (λ k. Some (record { count = s .count + 1 + 0; largest = k })) b in
     start ∙ survey-piece s p [] n (h .0) (h .1) ∙ ap (surveyAfter s) (sym (pieces-last 44 xs p e f))
 
 pub survey-not : (s : Survey) (xs p : List ℕ) → p ≡ upTo 44 xs → None ≡ cond (numeral p) (Some (min (valueOf p) top)) None

@@ -50,7 +50,7 @@ references-filled old os o n count e c =
     let all : List ℕ = referencesOf os ++ drop (referencesIn os) old in
     let front : take n all ≡ referencesOf os = take-at (referencesOf os) (drop (referencesIn os) old) n here in
     let back : drop (n + count) all ≡ drop (n + count) old =
-      sym (drop-drop count n all) ∙ ap (drop count) (drop-at (referencesOf os) (drop (referencesIn os) old) n here ∙ ap (λ k. drop k old) e) ∙ drop-drop count n old in
+    sym (drop-drop count n all) ∙ ap (drop count) (drop-at (referencesOf os) (drop (referencesIn os) old) n here ∙ ap (λ k. drop k old) e) ∙ drop-drop count n old in
     paste-all all n (o .refs) count c
     ∙ ap (λ xs. xs ++ (o .refs ++ drop (n + count) all)) front
     ∙ ap (λ xs. referencesOf os ++ (o .refs ++ xs)) back
@@ -60,15 +60,15 @@ references-filled old os o n count e c =
 
 abbrev pub withEntries : List ObjectEntry → Tables → Tables
 withEntries entries t =
-    record
-    { cells = t .cells
-    ; width = t .width
-    ; objects = t .objects
-    ; references = t .references
-    ; roots = t .roots
-    ; object-table = entries
-    ; reference-table = t .reference-table
-    ; root-table = t .root-table
+    record {
+      cells = t .cells;
+      width = t .width;
+      objects = t .objects;
+      references = t .references;
+      roots = t .roots;
+      object-table = entries;
+      reference-table = t .reference-table;
+      root-table = t .root-table;
     }
 
 -- the tables with one more object
@@ -79,14 +79,14 @@ pub filled-more : (old now last : Tables) (os : List Object) (o : Object) (i n c
 filled-more old now last os o i n count e f l r m c =
     let entry : ObjectEntry = record { at = o .at; len = o .len; first = n; count = count } in
     let same : entry ≡ entryOf (referencesIn os) o =
-      ap (λ k. record { at = o .at; len = o .len; first = k; count = count }) (sym m) ∙ ap (λ k. record { at = o .at; len = o .len; first = referencesIn os; count = k }) c in
+    ap (λ k. record { at = o .at; len = o .len; first = k; count = count }) (sym m) ∙ ap (λ k. record { at = o .at; len = o .len; first = referencesIn os; count = k }) c in
     ap (λ t. withEntries (set (t .object-table) i entry) t) (f ∙ ap (λ t. withReferences (paste (t .reference-table) n (o .refs) count) t) e)
     ∙ ap (λ x. withEntries (set (entriesFrom 0 os ++ drop (length os) (old .object-table)) i x)
-        (withReferences (paste (referencesOf os ++ drop (referencesIn os) (old .reference-table)) n (o .refs) count) old)) same
+    (withReferences (paste (referencesOf os ++ drop (referencesIn os) (old .reference-table)) n (o .refs) count) old)) same
     ∙ ap (λ xs. withEntries xs (withReferences (paste (referencesOf os ++ drop (referencesIn os) (old .reference-table)) n (o .refs) count) old))
-        (object-filled (old .object-table) os o i l r)
+    (object-filled (old .object-table) os o i l r)
     ∙ ap (λ xs. withEntries (entriesFrom 0 (os ++ o ∷ []) ++ drop (length (os ++ o ∷ [])) (old .object-table)) (withReferences xs old))
-        (references-filled (old .reference-table) os o n count m c)
+    (references-filled (old .reference-table) os o n count m c)
 
 pub length-filled : (old now : Tables) (os : List Object) → now ≡ withObjects os old → referencesIn os ≤ length (old .reference-table)
     → length (now .reference-table) ≡ length (old .reference-table)
@@ -100,7 +100,7 @@ pub roots-filled : (old now last : Tables) (h : Header) (os : List Object) (rs :
 roots-filled old now last h os rs count x e f c s =
     let zero : 0 + count ≡ length rs = omega (arith, c) in
     let roots : paste (old .root-table) 0 rs count ≡ rs ++ drop (length rs) (old .root-table) =
-      paste-all (old .root-table) 0 rs count c ∙ ap (λ n. rs ++ drop n (old .root-table)) zero in
+    paste-all (old .root-table) 0 rs count c ∙ ap (λ n. rs ++ drop n (old .root-table)) zero in
     f
     ∙ ap (λ t. withRoots (paste (t .root-table) 0 rs count) t) e
     ∙ ap (λ xs. withRoots xs (withObjects os old)) roots

@@ -21,56 +21,56 @@ SameLenders h h′ =
 
 abbrev pub withReferences : List ℕ → Tables → Tables
 withReferences references t =
-    record
-    { cells = t .cells
-    ; width = t .width
-    ; objects = t .objects
-    ; references = t .references
-    ; roots = t .roots
-    ; object-table = t .object-table
-    ; reference-table = references
-    ; root-table = t .root-table
+    record {
+      cells = t .cells;
+      width = t .width;
+      objects = t .objects;
+      references = t .references;
+      roots = t .roots;
+      object-table = t .object-table;
+      reference-table = references;
+      root-table = t .root-table;
     }
 
 abbrev pub withRoots : List ℕ → Tables → Tables
 withRoots roots t =
-    record
-    { cells = t .cells
-    ; width = t .width
-    ; objects = t .objects
-    ; references = t .references
-    ; roots = t .roots
-    ; object-table = t .object-table
-    ; reference-table = t .reference-table
-    ; root-table = roots
+    record {
+      cells = t .cells;
+      width = t .width;
+      objects = t .objects;
+      references = t .references;
+      roots = t .roots;
+      object-table = t .object-table;
+      reference-table = t .reference-table;
+      root-table = roots;
     }
 
 -- the tables once objects are filled in
 abbrev pub withObjects : List Object → Tables → Tables
 withObjects os t =
-    record
-    { cells = t .cells
-    ; width = t .width
-    ; objects = t .objects
-    ; references = t .references
-    ; roots = t .roots
-    ; object-table = entriesFrom 0 os ++ drop (length os) (t .object-table)
-    ; reference-table = referencesOf os ++ drop (referencesIn os) (t .reference-table)
-    ; root-table = t .root-table
+    record {
+      cells = t .cells;
+      width = t .width;
+      objects = t .objects;
+      references = t .references;
+      roots = t .roots;
+      object-table = entriesFrom 0 os ++ drop (length os) (t .object-table);
+      reference-table = referencesOf os ++ drop (referencesIn os) (t .reference-table);
+      root-table = t .root-table;
     }
 
 -- the tables once a heap is filled in, and its numbers are not set yet
 abbrev pub withHeap : Heap → Tables → Tables
 withHeap h t =
-    record
-    { cells = t .cells
-    ; width = t .width
-    ; objects = t .objects
-    ; references = t .references
-    ; roots = t .roots
-    ; object-table = filled h t .object-table
-    ; reference-table = filled h t .reference-table
-    ; root-table = filled h t .root-table
+    record {
+      cells = t .cells;
+      width = t .width;
+      objects = t .objects;
+      references = t .references;
+      roots = t .roots;
+      object-table = filled h t .object-table;
+      reference-table = filled h t .reference-table;
+      root-table = filled h t .root-table;
     }
 
 -- the lines of an accepted listing from line 6 on, and room for its heap

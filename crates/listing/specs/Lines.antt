@@ -59,8 +59,8 @@ abbrev pub counted : ℕ → ℕ → ℕ → List ℕ → Result ℕ Refusal
 counted before most objects v =
     cond (numerals v)
     (cond (leb (largest (numbers v)) 65535 && leb (before + length (numbers v)) most)
-      (cond (leb (largest (numbers v)) objects) (Ok (length (numbers v))) (Err Stranger))
-      (Err Range))
+    (cond (leb (largest (numbers v)) objects) (Ok (length (numbers v))) (Err Stranger))
+    (Err Range))
     (Err Form)
 
 -- that number, and the text of the list

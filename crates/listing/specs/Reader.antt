@@ -37,13 +37,13 @@ leftIn (Ok x) t = cond (roomIn (x .0) t) (filled (x .0) t) t
 -- the tables with the numbers of a heap
 abbrev pub withTotals : Totals → Tables → Tables
 withTotals n t =
-    record
-    { cells = n .header .cells
-    ; width = n .header .width
-    ; objects = n .header .objects
-    ; references = n .references
-    ; roots = n .roots
-    ; object-table = t .object-table
-    ; reference-table = t .reference-table
-    ; root-table = t .root-table
+    record {
+      cells = n .header .cells;
+      width = n .header .width;
+      objects = n .header .objects;
+      references = n .references;
+      roots = n .roots;
+      object-table = t .object-table;
+      reference-table = t .reference-table;
+      root-table = t .root-table;
     }

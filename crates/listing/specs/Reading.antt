@@ -21,10 +21,10 @@ pub record ObjectsRead (h : Header) (text : List ℕ) (references : ℕ) (rest :
 -- what a heap with its settings has in all
 abbrev pub totalsOf : Heap × Settings → Totals
 totalsOf x =
-    record
-    { header = record { cells = x .0 .cells; width = x .0 .width; markers = x .1 .markers; share = x .1 .share; objects = length (x .0 .objects) }
-    ; references = referencesIn (x .0 .objects)
-    ; roots = length (x .0 .roots)
+    record {
+      header = record { cells = x .0 .cells; width = x .0 .width; markers = x .1 .markers; share = x .1 .share; objects = length (x .0 .objects) };
+      references = referencesIn (x .0 .objects);
+      roots = length (x .0 .roots);
     }
 
 -- a listing was found right: what it has in all, and the text behind its header

@@ -31,11 +31,11 @@ objectLines o = numberLine (codes "at") (o .at) ∷ numberLine (codes "len") (o 
 abbrev pub listingLines : Heap → Settings → List (List ℕ)
 listingLines h s =
     (numberLine (codes "cells") (h .cells)
-      ∷ numberLine (codes "width") (h .width)
-      ∷ numberLine (codes "markers") (s .markers)
-      ∷ line (codes "share") (wordOf (s .share))
-      ∷ numberLine (codes "objects") (length (h .objects))
-      ∷ [])
+    ∷ numberLine (codes "width") (h .width)
+    ∷ numberLine (codes "markers") (s .markers)
+    ∷ line (codes "share") (wordOf (s .share))
+    ∷ numberLine (codes "objects") (length (h .objects))
+    ∷ [])
     ++ (joined objectLines (h .objects) ++ (listLine (codes "roots") (h .roots) ∷ []))
 
 -- each line is closed by byte 10

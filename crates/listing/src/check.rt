@@ -50,7 +50,17 @@ pub fn check(text: &[u8]) -> Result<(Totals, &[u8]), Fault>
     let number = 6 + 3 * header.objects;
     let (roots, rest) = read_roots(rest, number, header.objects)?;
     if rest.len() > 0 {
-        return Err(Fault { refusal: Refusal::Form, line: number + 1 });
+        return Err(Fault {
+            refusal: Refusal::Form,
+            line: number + 1,
+        });
     }
-    Ok((Totals { header, references, roots: roots.count }, body))
+    Ok((
+        Totals {
+            header,
+            references,
+            roots: roots.count,
+        },
+        body,
+    ))
 }

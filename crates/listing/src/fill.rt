@@ -72,7 +72,11 @@ fn fill_roots(list: NumberList<'_>, heap: &mut CheckedHeap)
 }
 
 // Reads the lines of all objects once more, and fills the tables. The heap is empty, and the listing is known to be right.
-fn fill_objects<'t>(header: Header, text: &'t [u8], heap: &mut CheckedHeap) -> Result<&'t [u8], Fault>
+fn fill_objects<'t>(
+    header: Header,
+    text: &'t [u8],
+    heap: &mut CheckedHeap,
+) -> Result<&'t [u8], Fault>
     requires fits { ⌜ BodyFits header (now text) (tablesOf (now heap)) ⌝ }
     requires empty { ⌜ (now heap .objects ≡ 0) × (now heap .references ≡ 0) ⌝ }
     ensures filled { λ r. ⌜ Cases r (λ rest. ObjectsFilled header (now (text .entry)) (tablesOf (now (heap .entry))) (tablesOf (now (heap .exit))) (now rest)) (λ _. ⊥) ⌝ }
@@ -86,7 +90,12 @@ fn fill_objects<'t>(header: Header, text: &'t [u8], heap: &mut CheckedHeap) -> R
         let (object, behind) = read_object(header, rest, number, end, references)?;
         let count = object.refs.count;
         fill_references(object.refs, references, heap);
-        heap.object_table[i as usize] = ObjectEntry { at: object.at as u16, len: object.len as u16, first: references as u32, count: count as u32 };
+        heap.object_table[i as usize] = ObjectEntry {
+            at: object.at as u16,
+            len: object.len as u16,
+            first: references as u32,
+            count: count as u32,
+        };
         end = object.at + object.len;
         references += count;
         number += 3;

@@ -18,7 +18,11 @@ pub fn number_in(value: Option<&[u8]>, low: u16, high: u16) -> Result<u32, Refus
 {
     let text = value.ok_or(Refusal::Form)?;
     let n = number(text).ok_or(Refusal::Form)?;
-    if u32::from(low) <= n && n <= u32::from(high) { Ok(n) } else { Err(Refusal::Range) }
+    if u32::from(low) <= n && n <= u32::from(high) {
+        Ok(n)
+    } else {
+        Err(Refusal::Range)
+    }
 }
 
 // The width that is a line's value: it cuts the cells into at most 64 sections.
@@ -28,7 +32,11 @@ pub fn width_in(value: Option<&[u8]>, cells: u32) -> Result<u32, Refusal>
 {
     let width = number_in(value, 1, 65535)?;
     let sections = (u64::from(cells) + (u64::from(width) - 1)) / u64::from(width);
-    if sections <= 64 { Ok(width) } else { Err(Refusal::Range) }
+    if sections <= 64 {
+        Ok(width)
+    } else {
+        Err(Refusal::Range)
+    }
 }
 
 // The start of an object that is a line's value, at or after the end of the object before.
@@ -37,7 +45,11 @@ pub fn at_in(value: Option<&[u8]>, end: u32) -> Result<u32, Refusal>
     ensures bounds { λ r. ⌜ made r (λ n. n ≤ 65535) ⌝ }
 {
     let at = number_in(value, 0, 65535)?;
-    if end <= at { Ok(at) } else { Err(Refusal::Overlap) }
+    if end <= at {
+        Ok(at)
+    } else {
+        Err(Refusal::Overlap)
+    }
 }
 
 // The length of an object that is a line's value: the object ends within the heap.
@@ -47,7 +59,11 @@ pub fn len_in(value: Option<&[u8]>, at: u32, cells: u32) -> Result<u32, Refusal>
 {
     let len = number_in(value, 1, 65535)?;
     let end = u64::from(at) + u64::from(len);
-    if end <= u64::from(cells) { Ok(len) } else { Err(Refusal::Overlap) }
+    if end <= u64::from(cells) {
+        Ok(len)
+    } else {
+        Err(Refusal::Overlap)
+    }
 }
 
 // The sharing rule that a word names.
@@ -82,7 +98,11 @@ fn count_in(text: &[u8], before: usize, most: u32, objects: u32) -> Result<usize
     if list.largest > 65535 || total > most as usize {
         return Err(Refusal::Range);
     }
-    if list.largest > objects { Err(Refusal::Stranger) } else { Ok(list.count) }
+    if list.largest > objects {
+        Err(Refusal::Stranger)
+    } else {
+        Ok(list.count)
+    }
 }
 
 // A list of numbers in text, and how many there are.
@@ -93,7 +113,12 @@ pub struct NumberList<'a> {
 }
 
 // The list of numbers that is a line's value.
-pub fn list_in(value: Option<&[u8]>, before: usize, most: u32, objects: u32) -> Result<NumberList<'_>, Refusal>
+pub fn list_in(
+    value: Option<&[u8]>,
+    before: usize,
+    most: u32,
+    objects: u32,
+) -> Result<NumberList<'_>, Refusal>
     ensures value { λ r. ⌜ Cases r (λ l. listIn before most objects (mapped now (value .entry)) ≡ Ok (l .count, now (l .text))) (λ e. listIn before most objects (mapped now (value .entry)) ≡ Err e) ⌝ }
     ensures counts { λ r. ⌜ made r (λ l. NumbersIn (now (l .text)) (l .count) × (before + l .count ≤ most)) ⌝ }
 {

@@ -45,7 +45,10 @@ fn next_line(text: &[u8], line: u32) -> Result<(&[u8], &[u8]), Fault>
     let (front, back) = cut(text, b'\n');
     match back {
         Some(rest) => Ok((front, rest)),
-        None => Err(Fault { refusal: Refusal::Form, line }),
+        None => Err(Fault {
+            refusal: Refusal::Form,
+            line,
+        }),
     }
 }
 
@@ -111,7 +114,12 @@ pub fn read_len(text: &[u8], number: u32, at: u32, cells: u32) -> Result<(u32, &
     Ok((len, rest))
 }
 
-pub fn read_refs(text: &[u8], number: u32, before: usize, objects: u32) -> Result<(NumberList<'_>, &[u8]), Fault>
+pub fn read_refs(
+    text: &[u8],
+    number: u32,
+    before: usize,
+    objects: u32,
+) -> Result<(NumberList<'_>, &[u8]), Fault>
     ensures value { λ r. ⌜ Cases r (λ p. readRefs number before objects (now (text .entry)) ≡ Ok ((p .0 .count, now (p .0 .text)), now (p .1))) (λ f. readRefs number before objects (now (text .entry)) ≡ Err f) ⌝ }
     ensures counts { λ r. ⌜ made r (λ p. NumbersIn (now (p .0 .text)) (p .0 .count) × (before + p .0 .count ≤ 262144)) ⌝ }
 {
@@ -139,7 +147,16 @@ pub fn read_header(text: &[u8]) -> Result<(Header, &[u8]), Fault>
     let (markers, rest) = read_markers(rest)?;
     let (share, rest) = read_share(rest)?;
     let (objects, rest) = read_objects(rest)?;
-    Ok((Header { cells, width, markers, share, objects }, rest))
+    Ok((
+        Header {
+            cells,
+            width,
+            markers,
+            share,
+            objects,
+        },
+        rest,
+    ))
 }
 
 // An object as its three lines give it; its references are still text.
@@ -152,7 +169,13 @@ pub struct ObjectLines<'a> {
 
 // The three lines of an object, from line `number` on, and the text behind them. `end` is the end of the object before, and `before`
 // the number of references so far.
-pub fn read_object(header: Header, text: &[u8], number: u32, end: u32, before: usize) -> Result<(ObjectLines<'_>, &[u8]), Fault>
+pub fn read_object(
+    header: Header,
+    text: &[u8],
+    number: u32,
+    end: u32,
+    before: usize,
+) -> Result<(ObjectLines<'_>, &[u8]), Fault>
     requires { ⌜ number ≤ 196608 ⌝ }
     ensures value { λ r. ⌜ Cases r (λ p. readObject header end before number (now (text .entry)) ≡ Ok ((p .0 .at, p .0 .len, (p .0 .refs .count, now (p .0 .refs .text))), now (p .1))) (λ f. readObject header end before number (now (text .entry)) ≡ Err f) ⌝ }
     ensures bounds { λ r. ⌜ made r (λ p. (p .0 .at ≤ 65535) × (1 ≤ p .0 .len) × (p .0 .len ≤ 65535)) ⌝ }

@@ -35,13 +35,19 @@ fn survey_some(text: &[u8]) -> Option<Survey>
     ensures { λ r. ⌜ r ≡ surveyed (pieces 44 (now (text .entry))) ⌝ }
 {
     let mut rest = text;
-    let mut seen = Survey { count: 0, largest: 0 };
+    let mut seen = Survey {
+        count: 0,
+        largest: 0,
+    };
     loop {
         let (piece, more) = cut(rest, b',');
         let Some(n) = number(piece) else {
             return None;
         };
-        seen = Survey { count: seen.count + 1, largest: seen.largest.max(n) };
+        seen = Survey {
+            count: seen.count + 1,
+            largest: seen.largest.max(n),
+        };
         match more {
             Some(next) => rest = next,
             None => return Some(seen),
@@ -54,7 +60,10 @@ pub fn survey_list(text: &[u8]) -> Option<Survey>
     ensures { λ r. ⌜ r ≡ surveyed (listed (now (text .entry))) ⌝ }
 {
     match text {
-        [] => Some(Survey { count: 0, largest: 0 }),
+        [] => Some(Survey {
+            count: 0,
+            largest: 0,
+        }),
         _ => survey_some(text),
     }
 }

@@ -12,7 +12,9 @@ fn digits(text: &[u8]) -> Option<u32>
     let mut value = 0u32;
     for b in text {
         match *b {
-            b'0'..=b'9' => value = value.saturating_mul(10).saturating_add(u32::from(*b - b'0')),
+            b'0'..=b'9' => value = value
+                .saturating_mul(10)
+                .saturating_add(u32::from(*b - b'0')),
             _ => return None,
         }
     }

@@ -1,10 +1,13 @@
 ghost use mathlib.Core.Path.{_≡_};
 ghost use Prim.Native.Nat.{ℕ};
-ghost use Rattle.heap.specs.Handed.{tablesOf};
+ghost use Rattle.std.specs.declared.result.Result.the-variants.{Ok, Err};
+ghost use Rattle.heap.specs.Heap.{Heap};
+ghost use Rattle.heap.specs.Handed.{tablesOf, heapOf};
 ghost use Rattle.heap.specs.Kept.{Kept};
 ghost use Rattle.heap.specs.Tables.{emptyOver};
 ghost use Rattle.listing.specs.Judge.{judge};
 ghost use Rattle.listing.specs.Filling.{SameLenders};
+ghost use Rattle.listing.specs.Laws.{Fitting, RefusedFor};
 ghost use Rattle.listing.specs.Reader.{roomFor, withTotals, answered, leftIn};
 use crate::check::Totals;
 use crate::check::check;
@@ -30,7 +33,9 @@ fn clear(heap: &mut CheckedHeap)
 fn has_room(heap: &CheckedHeap, totals: Totals) -> bool
     ensures { λ r. ⌜ r ≡ roomFor totals (tablesOf (now (heap .entry))) ⌝ }
 {
-    totals.header.objects as usize <= heap.object_table.len() && totals.references <= heap.reference_table.len() && totals.roots <= heap.root_table.len()
+    totals.header.objects as usize <= heap.object_table.len()
+        && totals.references <= heap.reference_table.len()
+        && totals.roots <= heap.root_table.len()
 }
 
 // Sets the numbers of the heap, last of all: its tables hold it already.
@@ -52,13 +57,23 @@ pub fn read(text: &[u8], heap: &mut CheckedHeap) -> Result<Settings, Fault>
     ensures answer { λ r. ⌜ r ≡ answered (judge (now (text .entry))) (tablesOf (now (heap .entry))) ⌝ }
     ensures tables { λ r. ⌜ tablesOf (now (heap .exit)) ≡ leftIn (judge (now (text .entry))) (tablesOf (now (heap .entry))) ⌝ }
     ensures lenders { λ r. ⌜ SameLenders (now (heap .entry)) (now (heap .exit)) ⌝ }
+    ensures accepted { λ r. ⌜ ((s : Settings) → r ≡ Ok s → Fitting (now (text .entry)) (heapOf (now (heap .exit))) s (tablesOf (now (heap .entry)))) ⌝ }
+    ensures accepts { λ r. ⌜ ((h : Heap) (s : Settings) → Fitting (now (text .entry)) h s (tablesOf (now (heap .entry))) → (r ≡ Ok s) × (heapOf (now (heap .exit)) ≡ h)) ⌝ }
+    ensures refused { λ r. ⌜ ((f : Fault) → r ≡ Err f → RefusedFor (now (text .entry)) (tablesOf (now (heap .entry))) f) ⌝ }
+    ensures refuses { λ r. ⌜ ((f : Fault) → RefusedFor (now (text .entry)) (tablesOf (now (heap .entry))) f → r ≡ Err f) ⌝ }
 {
     let (totals, body) = check(text)?;
     if !has_room(heap, totals) {
-        return Err(Fault { refusal: Refusal::Memory, line: 0 });
+        return Err(Fault {
+            refusal: Refusal::Memory,
+            line: 0,
+        });
     }
     clear(heap);
     fill_tables(totals.header, body, heap)?;
     set_numbers(heap, totals);
-    Ok(Settings { markers: totals.header.markers as usize, share: totals.header.share })
+    Ok(Settings {
+        markers: totals.header.markers as usize,
+        share: totals.header.share,
+    })
 }

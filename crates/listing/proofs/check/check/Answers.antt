@@ -21,8 +21,8 @@ returns-in-Break-roots c =
     let p = err-from-errBy (c .from-residual-in-Break-roots .result) (c .from-residual-in-Break-roots .ensures .1) in
     rw (p .1, p .2)
     ((
-      (roots-refused (c .args .text .now) (c .in-Continue-header .body .now) (c .in-Continue-references .rest .now) (c .in-Continue-header .header) (c .in-Continue-references .references)
-        (c .in-Break-roots .field-0 .0) (c .in-Continue-header .ensures tt .value) (c .in-Continue-references .ensures tt) (c .in-Break-roots .ensures tt .value))))
+    (roots-refused (c .args .text .now) (c .in-Continue-header .body .now) (c .in-Continue-references .rest .now) (c .in-Continue-header .header) (c .in-Continue-references .references)
+    (c .in-Break-roots .field-0 .0) (c .in-Continue-header .ensures tt .value) (c .in-Continue-references .ensures tt) (c .in-Break-roots .ensures tt .value))))
 
 pub returns : need.returns
 returns c =

@@ -18,7 +18,7 @@ returns-in-Break-object c =
     let p = err-from-errBy (c .from-residual .result) (c .from-residual .ensures .1) in
     rw (p .1, p .2)
     (stop-so-far (c .args .header) (c .args .text .now) (c .loop-i .-i) (c .loop-i .number) (c .loop-i .end) (c .loop-i .references) (c .loop-i .rest .now) _
-      (c .loop-i .inv) (c .loop-i-test .taken) (c .in-Break-object .ensures tt .value))
+    (c .loop-i .inv) (c .loop-i-test .taken) (c .in-Break-object .ensures tt .value))
 
 pub returns : need.returns
 returns c = all-so-far (c .args .header) (c .args .text .now) (c .loop-i .-i) (c .loop-i .number) (c .loop-i .end) (c .loop-i .references) (c .loop-i .rest .now) (c .loop-i .inv) (omega arith)

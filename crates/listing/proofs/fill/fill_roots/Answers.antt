@@ -15,23 +15,25 @@ use Rattle.listing.proofs.Lists.{number-at, after-more}
 use Rattle.listing.proofs.fill.fill_roots.Needs as need
 
 pub loop-i-holds : need.loop-i-holds
-loop-i-holds c =
-    (ap (λ xs. withRoots xs (tablesOf (c .args .heap .now))) (paste-none (c .args .heap .now .«root_table» .now) 0 (numbers (c .args .list .text .now)))
-    , (refl, refl, refl), refl)
+loop-i-holds c = (
+  ap (λ xs. withRoots xs (tablesOf (c .args .heap .now))) (paste-none (c .args .heap .now .«root_table» .now) 0 (numbers (c .args .list .text .now))),
+  (refl, refl, refl),
+  refl,
+)
 
 pub loop-i-again : need.loop-i-again
 loop-i-again c =
     let old = c .args .heap .now in
     let ns = numbers (c .args .list .text .now) in
     let n = number-at (c .args .list .text .now) (c .args .list .count) (c .loop-i .i) (c .loop-i .rest .now) (c .first-number-n .result .0) (c .pre .listed) (c .loop-i-test .taken)
-      (c .loop-i .inv .2) (c .first-number-n .ensures .number) in
-    let p = paste-more (old .«root_table» .now) 0 ns (c .loop-i .i) 0 (omega arith) (omega (arith, c .pre .listed .counted)) in
-    ( ap (λ j. withRoots (set (c .loop-i .heap .«root_table» .now) j (c .first-number-n .result .0)) (tablesOf (c .loop-i .heap))) (sym (zero-add (c .loop-i .i)))
-      ∙ ap (λ t. withRoots (set (t .root-table) (0 + c .loop-i .i) (c .first-number-n .result .0)) t) (c .loop-i .inv .0)
-      ∙ ap (λ m. withRoots (set (paste (old .«root_table» .now) 0 ns (c .loop-i .i)) (0 + c .loop-i .i) m) (tablesOf old)) n
-      ∙ ap (λ xs. withRoots xs (tablesOf old)) p
-    , c .loop-i .inv .1
-    , c .first-number-n .ensures .rest ∙ ap (λ t. valueOr (past 44 t) []) (c .loop-i .inv .2) ∙ sym (after-more (c .loop-i .i) (c .args .list .text .now))
+    (c .loop-i .inv .2) (c .first-number-n .ensures .number) in
+    let p = paste-more (old .«root_table» .now) 0 ns (c .loop-i .i) 0 (omega arith) (omega (arith, c .pre .listed .counted)) in (
+      ap (λ j. withRoots (set (c .loop-i .heap .«root_table» .now) j (c .first-number-n .result .0)) (tablesOf (c .loop-i .heap))) (sym (zero-add (c .loop-i .i)))
+          ∙ ap (λ t. withRoots (set (t .root-table) (0 + c .loop-i .i) (c .first-number-n .result .0)) t) (c .loop-i .inv .0)
+          ∙ ap (λ m. withRoots (set (paste (old .«root_table» .now) 0 ns (c .loop-i .i)) (0 + c .loop-i .i) m) (tablesOf old)) n
+          ∙ ap (λ xs. withRoots xs (tablesOf old)) p,
+      c .loop-i .inv .1,
+      c .first-number-n .ensures .rest ∙ ap (λ t. valueOr (past 44 t) []) (c .loop-i .inv .2) ∙ sym (after-more (c .loop-i .i) (c .args .list .text .now)),
     )
 
 pub ghost-heap : need.ghost-heap
