@@ -1,7 +1,7 @@
 // A checked heap over lent tables: no value of this type breaks the law of a heap.
-pub mod checked;
-pub mod entry;
-pub mod questions;
+mod checked;
+mod entry;
+mod questions;
 
 pub use checked::CheckedHeap;
 pub use entry::ObjectEntry;

@@ -17,3 +17,4 @@ pub mod Reread
 pub mod Accepting
 pub mod Ready
 pub mod Promised
+pub mod Longest

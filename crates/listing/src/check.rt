@@ -42,7 +42,7 @@ fn check_objects(header: Header, text: &[u8]) -> Result<(usize, &[u8]), Fault>
 }
 
 // Judges a listing, and writes nothing: what it has in all, and the text behind its header.
-pub fn check(text: &[u8]) -> Result<(Totals, &[u8]), Fault>
+pub(crate) fn check(text: &[u8]) -> Result<(Totals, &[u8]), Fault>
     ensures { λ r. ⌜ Cases r (λ p. Accepted (now (text .entry)) (p .0) (now (p .1))) (λ f. judge (now (text .entry)) ≡ Err f) ⌝ }
 {
     let (header, body) = read_header(text)?;

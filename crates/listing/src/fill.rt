@@ -105,7 +105,7 @@ fn fill_objects<'t>(
 }
 
 // Reads the lines behind the header once more, and fills the tables. The heap is empty, and the listing is known to be right.
-pub fn fill_tables(header: Header, text: &[u8], heap: &mut CheckedHeap) -> Result<(), Fault>
+pub(crate) fn fill_tables(header: Header, text: &[u8], heap: &mut CheckedHeap) -> Result<(), Fault>
     requires fits { ⌜ BodyFits header (now text) (tablesOf (now heap)) ⌝ }
     requires empty { ⌜ (now heap .objects ≡ 0) × (now heap .references ≡ 0) × (now heap .roots ≡ 0) ⌝ }
     ensures filled { λ r. ⌜ Cases r (λ _. (x : Heap × Settings) → judgeText (Objects header [] (header .objects)) 6 (now (text .entry)) ≡ Ok x → tablesOf (now (heap .exit)) ≡ withHeap (x .0) (tablesOf (now (heap .entry)))) (λ _. ⊥) ⌝ }

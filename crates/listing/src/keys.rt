@@ -5,7 +5,7 @@ ghost use Rattle.listing.specs.Judge.{behind};
 
 // What stands behind a line's key and its = sign; none where the line does not begin so.
 
-pub fn cells_value(line: &[u8]) -> Option<&[u8]>
+pub(crate) fn cells_value(line: &[u8]) -> Option<&[u8]>
     ensures { λ r. ⌜ mapped now r ≡ behind (codes "cells=") (now (line .entry)) ⌝ }
 {
     match line {
@@ -14,7 +14,7 @@ pub fn cells_value(line: &[u8]) -> Option<&[u8]>
     }
 }
 
-pub fn width_value(line: &[u8]) -> Option<&[u8]>
+pub(crate) fn width_value(line: &[u8]) -> Option<&[u8]>
     ensures { λ r. ⌜ mapped now r ≡ behind (codes "width=") (now (line .entry)) ⌝ }
 {
     match line {
@@ -23,7 +23,7 @@ pub fn width_value(line: &[u8]) -> Option<&[u8]>
     }
 }
 
-pub fn markers_value(line: &[u8]) -> Option<&[u8]>
+pub(crate) fn markers_value(line: &[u8]) -> Option<&[u8]>
     ensures { λ r. ⌜ mapped now r ≡ behind (codes "markers=") (now (line .entry)) ⌝ }
 {
     match line {
@@ -32,7 +32,7 @@ pub fn markers_value(line: &[u8]) -> Option<&[u8]>
     }
 }
 
-pub fn share_value(line: &[u8]) -> Option<&[u8]>
+pub(crate) fn share_value(line: &[u8]) -> Option<&[u8]>
     ensures { λ r. ⌜ mapped now r ≡ behind (codes "share=") (now (line .entry)) ⌝ }
 {
     match line {
@@ -41,7 +41,7 @@ pub fn share_value(line: &[u8]) -> Option<&[u8]>
     }
 }
 
-pub fn objects_value(line: &[u8]) -> Option<&[u8]>
+pub(crate) fn objects_value(line: &[u8]) -> Option<&[u8]>
     ensures { λ r. ⌜ mapped now r ≡ behind (codes "objects=") (now (line .entry)) ⌝ }
 {
     match line {
@@ -50,7 +50,7 @@ pub fn objects_value(line: &[u8]) -> Option<&[u8]>
     }
 }
 
-pub fn at_value(line: &[u8]) -> Option<&[u8]>
+pub(crate) fn at_value(line: &[u8]) -> Option<&[u8]>
     ensures { λ r. ⌜ mapped now r ≡ behind (codes "at=") (now (line .entry)) ⌝ }
 {
     match line {
@@ -59,7 +59,7 @@ pub fn at_value(line: &[u8]) -> Option<&[u8]>
     }
 }
 
-pub fn len_value(line: &[u8]) -> Option<&[u8]>
+pub(crate) fn len_value(line: &[u8]) -> Option<&[u8]>
     ensures { λ r. ⌜ mapped now r ≡ behind (codes "len=") (now (line .entry)) ⌝ }
 {
     match line {
@@ -68,7 +68,7 @@ pub fn len_value(line: &[u8]) -> Option<&[u8]>
     }
 }
 
-pub fn refs_value(line: &[u8]) -> Option<&[u8]>
+pub(crate) fn refs_value(line: &[u8]) -> Option<&[u8]>
     ensures { λ r. ⌜ mapped now r ≡ behind (codes "refs=") (now (line .entry)) ⌝ }
 {
     match line {
@@ -77,7 +77,7 @@ pub fn refs_value(line: &[u8]) -> Option<&[u8]>
     }
 }
 
-pub fn roots_value(line: &[u8]) -> Option<&[u8]>
+pub(crate) fn roots_value(line: &[u8]) -> Option<&[u8]>
     ensures { λ r. ⌜ mapped now r ≡ behind (codes "roots=") (now (line .entry)) ⌝ }
 {
     match line {

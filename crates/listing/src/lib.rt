@@ -1,13 +1,13 @@
 // The reader of a listing: number, list, line and listing, each a layer that passes its refusal up.
-pub mod check;
-pub mod fill;
-pub mod keys;
-pub mod line;
-pub mod lines;
-pub mod list;
-pub mod number;
-pub mod reader;
-pub mod settings;
+mod check;
+mod fill;
+mod keys;
+mod line;
+mod lines;
+mod list;
+mod number;
+mod reader;
+mod settings;
 
 pub use reader::read;
 pub use settings::Settings;

@@ -12,7 +12,7 @@ use crate::settings::SharingRule;
 use refusal::Refusal;
 
 // The number between two bounds that is a line's value.
-pub fn number_in(value: Option<&[u8]>, low: u16, high: u16) -> Result<u32, Refusal>
+pub(crate) fn number_in(value: Option<&[u8]>, low: u16, high: u16) -> Result<u32, Refusal>
     ensures value { λ r. ⌜ r ≡ numbered low high (mapped now (value .entry)) ⌝ }
     ensures bounds { λ r. ⌜ made r (λ n. (low ≤ n) × (n ≤ high)) ⌝ }
 {
@@ -26,7 +26,7 @@ pub fn number_in(value: Option<&[u8]>, low: u16, high: u16) -> Result<u32, Refus
 }
 
 // The width that is a line's value: it cuts the cells into at most 64 sections.
-pub fn width_in(value: Option<&[u8]>, cells: u32) -> Result<u32, Refusal>
+pub(crate) fn width_in(value: Option<&[u8]>, cells: u32) -> Result<u32, Refusal>
     ensures value { λ r. ⌜ r ≡ widthIn cells (mapped now (value .entry)) ⌝ }
     ensures bounds { λ r. ⌜ made r (λ n. (1 ≤ n) × (n ≤ 65535)) ⌝ }
 {
@@ -40,7 +40,7 @@ pub fn width_in(value: Option<&[u8]>, cells: u32) -> Result<u32, Refusal>
 }
 
 // The start of an object that is a line's value, at or after the end of the object before.
-pub fn at_in(value: Option<&[u8]>, end: u32) -> Result<u32, Refusal>
+pub(crate) fn at_in(value: Option<&[u8]>, end: u32) -> Result<u32, Refusal>
     ensures value { λ r. ⌜ r ≡ atIn end (mapped now (value .entry)) ⌝ }
     ensures bounds { λ r. ⌜ made r (λ n. n ≤ 65535) ⌝ }
 {
@@ -53,7 +53,7 @@ pub fn at_in(value: Option<&[u8]>, end: u32) -> Result<u32, Refusal>
 }
 
 // The length of an object that is a line's value: the object ends within the heap.
-pub fn len_in(value: Option<&[u8]>, at: u32, cells: u32) -> Result<u32, Refusal>
+pub(crate) fn len_in(value: Option<&[u8]>, at: u32, cells: u32) -> Result<u32, Refusal>
     ensures value { λ r. ⌜ r ≡ lenIn at cells (mapped now (value .entry)) ⌝ }
     ensures bounds { λ r. ⌜ made r (λ n. (1 ≤ n) × (n ≤ 65535)) ⌝ }
 {
@@ -79,7 +79,7 @@ fn rule_named(text: &[u8]) -> Option<SharingRule>
 }
 
 // The sharing rule that is a line's value.
-pub fn rule_in(value: Option<&[u8]>) -> Result<SharingRule, Refusal>
+pub(crate) fn rule_in(value: Option<&[u8]>) -> Result<SharingRule, Refusal>
     ensures { λ r. ⌜ r ≡ ruled (mapped now (value .entry)) ⌝ }
 {
     let text = value.ok_or(Refusal::Form)?;
@@ -113,7 +113,7 @@ pub struct NumberList<'a> {
 }
 
 // The list of numbers that is a line's value.
-pub fn list_in(
+pub(crate) fn list_in(
     value: Option<&[u8]>,
     before: usize,
     most: u32,

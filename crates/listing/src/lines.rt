@@ -52,7 +52,7 @@ fn next_line(text: &[u8], line: u32) -> Result<(&[u8], &[u8]), Fault>
     }
 }
 
-pub fn read_cells(text: &[u8]) -> Result<(u32, &[u8]), Fault>
+pub(crate) fn read_cells(text: &[u8]) -> Result<(u32, &[u8]), Fault>
     ensures value { λ r. ⌜ Cases r (λ p. readCells (now (text .entry)) ≡ Ok (p .0, now (p .1))) (λ f. readCells (now (text .entry)) ≡ Err f) ⌝ }
     ensures bounds { λ r. ⌜ made r (λ p. (1 ≤ p .0) × (p .0 ≤ 65535)) ⌝ }
 {
@@ -61,7 +61,7 @@ pub fn read_cells(text: &[u8]) -> Result<(u32, &[u8]), Fault>
     Ok((cells, rest))
 }
 
-pub fn read_width(text: &[u8], cells: u32) -> Result<(u32, &[u8]), Fault>
+pub(crate) fn read_width(text: &[u8], cells: u32) -> Result<(u32, &[u8]), Fault>
     ensures value { λ r. ⌜ Cases r (λ p. readWidth cells (now (text .entry)) ≡ Ok (p .0, now (p .1))) (λ f. readWidth cells (now (text .entry)) ≡ Err f) ⌝ }
     ensures bounds { λ r. ⌜ made r (λ p. (1 ≤ p .0) × (p .0 ≤ 65535)) ⌝ }
 {
@@ -70,7 +70,7 @@ pub fn read_width(text: &[u8], cells: u32) -> Result<(u32, &[u8]), Fault>
     Ok((width, rest))
 }
 
-pub fn read_markers(text: &[u8]) -> Result<(u32, &[u8]), Fault>
+pub(crate) fn read_markers(text: &[u8]) -> Result<(u32, &[u8]), Fault>
     ensures value { λ r. ⌜ Cases r (λ p. readMarkers (now (text .entry)) ≡ Ok (p .0, now (p .1))) (λ f. readMarkers (now (text .entry)) ≡ Err f) ⌝ }
     ensures bounds { λ r. ⌜ made r (λ p. (1 ≤ p .0) × (p .0 ≤ 16)) ⌝ }
 {
@@ -79,7 +79,7 @@ pub fn read_markers(text: &[u8]) -> Result<(u32, &[u8]), Fault>
     Ok((markers, rest))
 }
 
-pub fn read_share(text: &[u8]) -> Result<(SharingRule, &[u8]), Fault>
+pub(crate) fn read_share(text: &[u8]) -> Result<(SharingRule, &[u8]), Fault>
     ensures { λ r. ⌜ Cases r (λ p. readShare (now (text .entry)) ≡ Ok (p .0, now (p .1))) (λ f. readShare (now (text .entry)) ≡ Err f) ⌝ }
 {
     let (line, rest) = next_line(text, 4)?;
@@ -87,7 +87,7 @@ pub fn read_share(text: &[u8]) -> Result<(SharingRule, &[u8]), Fault>
     Ok((share, rest))
 }
 
-pub fn read_objects(text: &[u8]) -> Result<(u32, &[u8]), Fault>
+pub(crate) fn read_objects(text: &[u8]) -> Result<(u32, &[u8]), Fault>
     ensures value { λ r. ⌜ Cases r (λ p. readObjects (now (text .entry)) ≡ Ok (p .0, now (p .1))) (λ f. readObjects (now (text .entry)) ≡ Err f) ⌝ }
     ensures bounds { λ r. ⌜ made r (λ p. p .0 ≤ 65535) ⌝ }
 {
@@ -96,7 +96,7 @@ pub fn read_objects(text: &[u8]) -> Result<(u32, &[u8]), Fault>
     Ok((objects, rest))
 }
 
-pub fn read_at(text: &[u8], number: u32, end: u32) -> Result<(u32, &[u8]), Fault>
+pub(crate) fn read_at(text: &[u8], number: u32, end: u32) -> Result<(u32, &[u8]), Fault>
     ensures value { λ r. ⌜ Cases r (λ p. readAt number end (now (text .entry)) ≡ Ok (p .0, now (p .1))) (λ f. readAt number end (now (text .entry)) ≡ Err f) ⌝ }
     ensures bounds { λ r. ⌜ made r (λ p. p .0 ≤ 65535) ⌝ }
 {
@@ -105,7 +105,7 @@ pub fn read_at(text: &[u8], number: u32, end: u32) -> Result<(u32, &[u8]), Fault
     Ok((at, rest))
 }
 
-pub fn read_len(text: &[u8], number: u32, at: u32, cells: u32) -> Result<(u32, &[u8]), Fault>
+pub(crate) fn read_len(text: &[u8], number: u32, at: u32, cells: u32) -> Result<(u32, &[u8]), Fault>
     ensures value { λ r. ⌜ Cases r (λ p. readLen number at cells (now (text .entry)) ≡ Ok (p .0, now (p .1))) (λ f. readLen number at cells (now (text .entry)) ≡ Err f) ⌝ }
     ensures bounds { λ r. ⌜ made r (λ p. (1 ≤ p .0) × (p .0 ≤ 65535)) ⌝ }
 {
@@ -114,7 +114,7 @@ pub fn read_len(text: &[u8], number: u32, at: u32, cells: u32) -> Result<(u32, &
     Ok((len, rest))
 }
 
-pub fn read_refs(
+pub(crate) fn read_refs(
     text: &[u8],
     number: u32,
     before: usize,
@@ -128,7 +128,7 @@ pub fn read_refs(
     Ok((refs, rest))
 }
 
-pub fn read_roots(text: &[u8], number: u32, objects: u32) -> Result<(NumberList<'_>, &[u8]), Fault>
+pub(crate) fn read_roots(text: &[u8], number: u32, objects: u32) -> Result<(NumberList<'_>, &[u8]), Fault>
     ensures value { λ r. ⌜ Cases r (λ p. readRoots number objects (now (text .entry)) ≡ Ok ((p .0 .count, now (p .0 .text)), now (p .1))) (λ f. readRoots number objects (now (text .entry)) ≡ Err f) ⌝ }
     ensures counts { λ r. ⌜ made r (λ p. NumbersIn (now (p .0 .text)) (p .0 .count) × (0 + p .0 .count ≤ 4096)) ⌝ }
 {
@@ -138,7 +138,7 @@ pub fn read_roots(text: &[u8], number: u32, objects: u32) -> Result<(NumberList<
 }
 
 // The first five lines, and the text behind them.
-pub fn read_header(text: &[u8]) -> Result<(Header, &[u8]), Fault>
+pub(crate) fn read_header(text: &[u8]) -> Result<(Header, &[u8]), Fault>
     ensures value { λ r. ⌜ Cases r (λ p. readHeader (now (text .entry)) ≡ Ok (p .0, now (p .1))) (λ f. readHeader (now (text .entry)) ≡ Err f) ⌝ }
     ensures bounds { λ r. ⌜ made r (λ p. (1 ≤ p .0 .cells) × (p .0 .cells ≤ 65535) × (1 ≤ p .0 .width) × (p .0 .width ≤ 65535) × (p .0 .markers ≤ 16) × (p .0 .objects ≤ 65535)) ⌝ }
 {
@@ -169,7 +169,7 @@ pub struct ObjectLines<'a> {
 
 // The three lines of an object, from line `number` on, and the text behind them. `end` is the end of the object before, and `before`
 // the number of references so far.
-pub fn read_object(
+pub(crate) fn read_object(
     header: Header,
     text: &[u8],
     number: u32,

@@ -10,7 +10,7 @@ ghost use Rattle.listing.specs.Survey.{surveyed};
 use crate::number::number;
 
 // What stands before the first separator, and what stands behind it.
-pub fn cut(text: &[u8], sep: u8) -> (&[u8], Option<&[u8]>)
+pub(crate) fn cut(text: &[u8], sep: u8) -> (&[u8], Option<&[u8]>)
     ensures front { λ r. ⌜ now (r .0) ≡ upTo sep (now (text .entry)) ⌝ }
     ensures back { λ r. ⌜ mapped now (r .1) ≡ past sep (now (text .entry)) ⌝ }
 {
@@ -56,7 +56,7 @@ fn survey_some(text: &[u8]) -> Option<Survey>
 }
 
 // Zero or more numbers with single commas between; none where the text is no such list.
-pub fn survey_list(text: &[u8]) -> Option<Survey>
+pub(crate) fn survey_list(text: &[u8]) -> Option<Survey>
     ensures { λ r. ⌜ r ≡ surveyed (listed (now (text .entry))) ⌝ }
 {
     match text {

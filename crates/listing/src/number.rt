@@ -22,7 +22,7 @@ fn digits(text: &[u8]) -> Option<u32>
 }
 
 // The number that a text writes, or the largest u32 where it is larger; none where the text is no number.
-pub fn number(text: &[u8]) -> Option<u32>
+pub(crate) fn number(text: &[u8]) -> Option<u32>
     ensures { λ r. ⌜ r ≡ cond (numeral (now (text .entry))) (Some (min (valueOf (now (text .entry))) (2 ^ 32 - 1))) None ⌝ }
 {
     match text {

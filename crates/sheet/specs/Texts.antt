@@ -21,14 +21,14 @@ faultText f = pair (codes "refused") (decimal (numberOf (f .refusal))) ++ pair (
 abbrev pub sheetText : Heap → Settings → List ℕ
 sheetText h s =
     pair (codes "cells") (decimal (h .cells))
-    ++ (pair (codes "width") (decimal (h .width))
-    ++ (pair (codes "sections") (decimal (sectionsOf (h .cells) (h .width)))
-    ++ (pair (codes "markers") (decimal (s .markers))
-    ++ (pair (codes "share") (wordOf (s .share))
-    ++ (pair (codes "objects") (decimal (length (h .objects)))
-    ++ (pair (codes "references") (decimal (referencesIn (h .objects)))
-    ++ (pair (codes "roots") (decimal (length (h .roots)))
-    ++ pair (codes "covered") (decimal (cellsIn (h .objects))))))))))
+    ++ pair (codes "width") (decimal (h .width))
+    ++ pair (codes "sections") (decimal (sectionsOf (h .cells) (h .width)))
+    ++ pair (codes "markers") (decimal (s .markers))
+    ++ pair (codes "share") (wordOf (s .share))
+    ++ pair (codes "objects") (decimal (length (h .objects)))
+    ++ pair (codes "references") (decimal (referencesIn (h .objects)))
+    ++ pair (codes "roots") (decimal (length (h .roots)))
+    ++ pair (codes "covered") (decimal (cellsIn (h .objects)))
 
 abbrev pub helpText : List ℕ
 helpText =
