@@ -179,10 +179,20 @@ header-at-most cells width markers share objects long wide marked few =
     let m-most = number-line-at-most (codes "markers") 2 markers (omega arith) (omega arith) (omega arith) in
     let s-is = length-line (codes "share") (wordOf share) in
     let o-most = number-line-at-most (codes "objects") 5 objects (omega arith) (omega arith) few in
-    omega
-      ( arith, c-most, w-most, m-most, s-is, word-at-most share, o-most, length-closed c (w ∷ m ∷ s ∷ o ∷ []), length-closed w (m ∷ s ∷ o ∷ [])
-      , length-closed m (s ∷ o ∷ []), length-closed s (o ∷ []), length-closed o []
-      )
+    omega (
+      arith,
+      c-most,
+      w-most,
+      m-most,
+      s-is,
+      word-at-most share,
+      o-most,
+      length-closed c (w ∷ m ∷ s ∷ o ∷ []),
+      length-closed w (m ∷ s ∷ o ∷ []),
+      length-closed m (s ∷ o ∷ []),
+      length-closed s (o ∷ []),
+      length-closed o [],
+    )
 
 pub longest-written : (h : Heap) (s : Settings) → Lawful h → InRange s → length (written h s) ≤ 2962630
 longest-written h s law range =
@@ -196,7 +206,17 @@ longest-written h s law range =
     let texts-most = references-at-most (h .cells) most 0 (h .objects) (law .objects) (law .laid) in
     let roots-most = list-at-most (h .roots) (all-small most (h .roots) (law .objects) (law .rooted)) in
     let last-is = length-line (codes "roots") (listText (h .roots)) in
-    omega
-      ( arith, first-most, middle-most, room-used, texts-most, roots-most, last-is, law .references, law .roots, length-closed last []
-      , length-closed-append middle (last ∷ []), length-closed-append first (middle ++ last ∷ [])
-      )
+    omega (
+      arith,
+      first-most,
+      middle-most,
+      room-used,
+      texts-most,
+      roots-most,
+      last-is,
+      law .references,
+      law .roots,
+      length-closed last [],
+      length-closed-append middle (last ∷ []),
+      length-closed-append first (middle ++ last ∷ []),
+    )

@@ -128,7 +128,11 @@ pub(crate) fn read_refs(
     Ok((refs, rest))
 }
 
-pub(crate) fn read_roots(text: &[u8], number: u32, objects: u32) -> Result<(NumberList<'_>, &[u8]), Fault>
+pub(crate) fn read_roots(
+    text: &[u8],
+    number: u32,
+    objects: u32,
+) -> Result<(NumberList<'_>, &[u8]), Fault>
     ensures value { λ r. ⌜ Cases r (λ p. readRoots number objects (now (text .entry)) ≡ Ok ((p .0 .count, now (p .0 .text)), now (p .1))) (λ f. readRoots number objects (now (text .entry)) ≡ Err f) ⌝ }
     ensures counts { λ r. ⌜ made r (λ p. NumbersIn (now (p .0 .text)) (p .0 .count) × (0 + p .0 .count ≤ 4096)) ⌝ }
 {

@@ -26,7 +26,7 @@ always-room : (h : Heap) (t : Tables) → Lawful h → 65535 ≤ length (t .obje
 always-room h t law o e r =
     and-from _ _ (le-leb (length (h .objects)) (length (t .object-table)) (omega (arith, law .objects, o)))
     (and-from _ _ (le-leb (referencesIn (h .objects)) (length (t .reference-table)) (omega (arith, law .references, e)))
-      (le-leb (length (h .roots)) (length (t .root-table)) (omega (arith, law .roots, r))))
+    (le-leb (length (h .roots)) (length (t .root-table)) (omega (arith, law .roots, r))))
 
 pub ok-judged : (text : List ℕ) (h : Heap) (s : Settings) (t : Tables) → Fitting text h s t → judge text ≡ Ok (h, s)
 ok-judged text h s t f = ap judge (f .form) ∙ exact .read-back h s (f .lawful) (f .range)

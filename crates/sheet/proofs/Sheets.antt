@@ -27,11 +27,11 @@ sheet-lines h s t₁ t₂ t₃ t₄ t₅ t₆ t₇ t₈ sections covered e₁ e�
     let n = counts h in
     added t₇ _ t₈ (codes "covered") covered (cellsIn (heapOf h .objects)) e₈
     (added t₆ _ t₇ (codes "roots") (h .roots) (length (heapOf h .roots)) e₇
-      (added t₅ _ t₆ (codes "references") (h .references) (referencesIn (heapOf h .objects)) e₆
-        (added t₄ _ t₅ (codes "objects") (h .objects) (length (heapOf h .objects)) e₅
-          (e₄ ∙ ap (λ xs. xs ++ pair (codes "markers") (decimal (s .markers)) ++ pair (codes "share") (wordOf (s .share)))
-            (added t₂ _ t₃ (codes "sections") sections (sectionsOf (h .cells) (h .width)) e₃ (added t₁ _ t₂ (codes "width") (h .width) (h .width) e₂ e₁ refl) f))
-          (sym (n .0)))
-        (sym (n .1)))
-      (sym (n .2)))
+    (added t₅ _ t₆ (codes "references") (h .references) (referencesIn (heapOf h .objects)) e₆
+    (added t₄ _ t₅ (codes "objects") (h .objects) (length (heapOf h .objects)) e₅
+    (e₄ ∙ ap (λ xs. xs ++ pair (codes "markers") (decimal (s .markers)) ++ pair (codes "share") (wordOf (s .share)))
+    (added t₂ _ t₃ (codes "sections") sections (sectionsOf (h .cells) (h .width)) e₃ (added t₁ _ t₂ (codes "width") (h .width) (h .width) e₂ e₁ refl) f))
+    (sym (n .0)))
+    (sym (n .1)))
+    (sym (n .2)))
     g

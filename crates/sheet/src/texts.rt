@@ -55,7 +55,11 @@ fn add_settings(text: &mut String, memory: Global, settings: Settings) -> Result
 }
 
 // The numbers of a heap and its settings, one line each.
-pub fn sheet_text(memory: Global, heap: &CheckedHeap, settings: Settings) -> Result<String, AllocError>
+pub fn sheet_text(
+    memory: Global,
+    heap: &CheckedHeap,
+    settings: Settings,
+) -> Result<String, AllocError>
     ensures { λ r. ⌜ made r (λ t. string-bytes t ≡ sheetText (heapOf (now (heap .entry))) settings) ⌝ }
 {
     let mut text = number_line(memory, "cells", heap.cells)?;

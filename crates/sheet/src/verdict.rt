@@ -41,11 +41,20 @@ fn refused(memory: Global, fault: Fault) -> Result<Verdict, AllocError>
     ensures { λ r. ⌜ made r (λ v. (string-bytes (v .text) ≡ faultText fault) × (v .accepted ≡ false)) ⌝ }
 {
     let text = fault_text(memory, fault)?;
-    Ok(Verdict { text, accepted: false })
+    Ok(Verdict {
+        text,
+        accepted: false,
+    })
 }
 
 // Reads a text into tables of full size, so that they suffice for every listing.
-fn judge_over(memory: Global, text: &[u8], objects: &mut [ObjectEntry], references: &mut [u16], roots: &mut [u16]) -> Result<Verdict, AllocError>
+fn judge_over(
+    memory: Global,
+    text: &[u8],
+    objects: &mut [ObjectEntry],
+    references: &mut [u16],
+    roots: &mut [u16],
+) -> Result<Verdict, AllocError>
     requires objects { ⌜ 65535 ≤ length (now objects) ⌝ }
     requires references { ⌜ 262144 ≤ length (now references) ⌝ }
     requires roots { ⌜ 4096 ≤ length (now roots) ⌝ }
@@ -55,7 +64,10 @@ fn judge_over(memory: Global, text: &[u8], objects: &mut [ObjectEntry], referenc
     match read(text, &mut heap) {
         Ok(settings) => {
             let text = sheet_text(memory, &heap, settings)?;
-            Ok(Verdict { text, accepted: true })
+            Ok(Verdict {
+                text,
+                accepted: true,
+            })
         }
         Err(fault) => refused(memory, fault),
     }
@@ -66,11 +78,28 @@ pub fn judge_listing(memory: Global, text: &[u8]) -> Result<Verdict, AllocError>
     ensures { λ r. ⌜ made r (λ v. (string-bytes (v .text) ≡ printed (judgedUpTo (now (text .entry)))) × (v .accepted ≡ isOk (judgedUpTo (now (text .entry))))) ⌝ }
 {
     if text.len() > longest_listing() {
-        return refused(memory, Fault { refusal: Refusal::Memory, line: 0 });
+        return refused(
+            memory,
+            Fault {
+                refusal: Refusal::Memory,
+                line: 0,
+            },
+        );
     }
-    let none = ObjectEntry { at: 0, len: 0, first: 0, count: 0 };
+    let none = ObjectEntry {
+        at: 0,
+        len: 0,
+        first: 0,
+        count: 0,
+    };
     let mut objects = vec![in memory; none; 65_535]?;
     let mut references = vec![in memory; 0u16; 262_144]?;
     let mut roots = vec![in memory; 0u16; 4_096]?;
-    judge_over(memory, text, objects.as_mut_slice(), references.as_mut_slice(), roots.as_mut_slice())
+    judge_over(
+        memory,
+        text,
+        objects.as_mut_slice(),
+        references.as_mut_slice(),
+        roots.as_mut_slice(),
+    )
 }

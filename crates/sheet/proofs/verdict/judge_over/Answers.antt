@@ -22,10 +22,10 @@ returns-in-Err c =
     let t = tablesOf (c .empty-heap .result) in
     let e = c .empty-heap .ensures in
     let j = err-judged (c .args .text .now) t (c .in-Err .fault)
-      (long-enough 65535 (t .object-table) (c .args .objects .now) (ap (λ u. u .object-table) e) (c .pre .objects))
-      (long-enough 262144 (t .reference-table) (c .args .references .now) (ap (λ u. u .reference-table) e) (c .pre .references))
-      (long-enough 4096 (t .root-table) (c .args .roots .now) (ap (λ u. u .root-table) e) (c .pre .roots))
-      (c .in-Err .ensures tt .refused (c .in-Err .fault) refl) in
+    (long-enough 65535 (t .object-table) (c .args .objects .now) (ap (λ u. u .object-table) e) (c .pre .objects))
+    (long-enough 262144 (t .reference-table) (c .args .references .now) (ap (λ u. u .reference-table) e) (c .pre .references))
+    (long-enough 4096 (t .root-table) (c .args .roots .now) (ap (λ u. u .root-table) e) (c .pre .roots))
+    (c .in-Err .ensures tt .refused (c .in-Err .fault) refl) in
     made-weaker (c .refused .result) (λ v. (string-bytes (v .text) ≡ faultText (c .in-Err .fault)) × (v .accepted ≡ false))
     (λ v. (string-bytes (v .text) ≡ printed (judge (c .args .text .now))) × (v .accepted ≡ isOk (judge (c .args .text .now))))
     (λ v p. (p .0 ∙ sym (ap printed j), p .1 ∙ sym (ap isOk j))) (c .refused .ensures)

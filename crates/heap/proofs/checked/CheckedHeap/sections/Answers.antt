@@ -1,4 +1,4 @@
-use mathlib.Core.Path.{refl}
+use borrow.Author.Needs.{needs}
 use native.Mathlib.Omega.{arith}
 use Rattle.heap.proofs.Laid.{lawful}
 use Rattle.heap.proofs.Sections.{some-section}
@@ -7,4 +7,4 @@ use Rattle.heap.proofs.checked.CheckedHeap.sections.Needs as need
 pub returns : need.returns
 returns c =
     let h = c .args .self .now in
-    record { value = refl; bounds = (some-section (h .cells) (h .width) (h .long .0) (h .wide .0), h .cut); lawful = lawful h }
+    record { value = search needs; bounds = (some-section (h .cells) (h .width) (h .long .0) (h .wide .0), h .cut); lawful = lawful h }
