@@ -13,7 +13,10 @@ fn read_text(rt: &LibcRuntime, path: Option<String>) -> Result<Vec<u8>, AnyError
     let mut text = Vec::new(rt.alloc());
     match path {
         Some(path) => {
-            let file = File::open(rt, path.as_str())?;
+            let file = match File::open(rt, path.as_str()) {
+                Ok(file) => file,
+                Err(e) => return Err(format!(rt.alloc(), "cannot open {path}: {e}")?.into()),
+            };
             file.take(most).read_to_end(&mut text)?;
         }
         None => {
@@ -47,6 +50,9 @@ fn main(rt: LibcRuntime) -> Result<(), AnyError> {
     match run(&rt) {
         Ok(true) => Ok(()),
         Ok(false) => Err("refused".into()),
-        Err(trouble) => rt.report(Err(trouble)),
+        Err(trouble) => {
+            eprintln!(rt, "check_listing: {trouble}")?;
+            Err(trouble)
+        }
     }
 }

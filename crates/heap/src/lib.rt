@@ -5,3 +5,5 @@ mod questions;
 
 pub use checked::CheckedHeap;
 pub use entry::ObjectEntry;
+pub use entry::ObjectEntryDebug;
+pub use entry::ObjectEntryPartialEq;
