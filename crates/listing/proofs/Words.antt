@@ -12,7 +12,11 @@ use Rattle.std.specs.declared.option.Option.the-variants.{Some, None}
 use Rattle.listing.specs.declared.settings.SharingRule.{SharingRule}
 use Rattle.listing.specs.declared.settings.SharingRule.the-variants.{New, Old, Both}
 use Rattle.listing.specs.Rules.{same, wordOf, ruleNamed}
-use Rattle.listing.specs.Lines.{Named}
+use Rattle.listing.specs.Lines.{Named, orForm}
+use Rattle.std.specs.declared.result.Result.{Result}
+use Rattle.std.specs.declared.result.Result.the-variants.{Ok, Err}
+use Rattle.refusal.specs.declared.Refusal.{Refusal}
+use Rattle.refusal.specs.declared.Refusal.the-variants.{Form}
 
 pub same-is : (xs ys : List ℕ) → same xs ys ≡ true → xs ≡ ys
 same-is [] [] e = refl
@@ -27,12 +31,12 @@ same-is (x ∷ xs) (y ∷ ys) e =
 same-not : (xs ys : List ℕ) → (xs ≡ ys → ⊥) → same xs ys ≡ false
 same-not xs ys f = ⊎-elim (λ e. absurd (f (same-is xs ys e))) (λ e. e) (cases-bool (same xs ys))
 
-pub named-is : (text : List ℕ) (r : Option SharingRule) → Named text r → r ≡ ruleNamed text
-named-is text (Some New) e = sym (ap ruleNamed e)
-named-is text (Some Old) e = sym (ap ruleNamed e)
-named-is text (Some Both) e = sym (ap ruleNamed e)
-named-is text None f =
-    let a = same-not text (wordOf New) (f New) in
-    let b = same-not text (wordOf Old) (f Old) in
-    let c = same-not text (wordOf Both) (f Both) in
-    rw (a, b, c)
+pub named-is : (text : List ℕ) (r : Result SharingRule Refusal) → Named text r → r ≡ orForm (ruleNamed text)
+named-is text (Ok New) e = sym (ap (λ t. orForm (ruleNamed t)) e)
+named-is text (Ok Old) e = sym (ap (λ t. orForm (ruleNamed t)) e)
+named-is text (Ok Both) e = sym (ap (λ t. orForm (ruleNamed t)) e)
+named-is text (Err y) f =
+    let a = same-not text (wordOf New) (f .1 New) in
+    let b = same-not text (wordOf Old) (f .1 Old) in
+    let c = same-not text (wordOf Both) (f .1 Both) in
+    rw (a, b, c) (ap Err (f .0))

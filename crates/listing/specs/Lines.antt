@@ -40,9 +40,9 @@ abbrev pub lenIn : ℕ → ℕ → Option (List ℕ) → Result ℕ Refusal
 lenIn at cells v = then (numbered 1 65535 v) (λ l. cond (leb (at + l) cells) (Ok l) (Err Overlap))
 
 -- the rule whose word the text is, if any
-abbrev pub Named : List ℕ → Option SharingRule → Type 0
-Named text (Some s) = text ≡ wordOf s
-Named text None = (s : SharingRule) → text ≡ wordOf s → ⊥
+abbrev pub Named : List ℕ → Result SharingRule Refusal → Type 0
+Named text (Ok s) = text ≡ wordOf s
+Named text (Err e) = (e ≡ Form) × ((s : SharingRule) → text ≡ wordOf s → ⊥)
 
 abbrev pub orForm : {A : Type 0} → Option A → Result A Refusal
 orForm None = Err Form

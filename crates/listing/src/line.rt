@@ -17,7 +17,7 @@ pub(crate) fn number_in(value: Option<&[u8]>, low: u16, high: u16) -> Result<u32
     ensures bounds { λ r. ⌜ made r (λ n. (low ≤ n) × (n ≤ high)) ⌝ }
 {
     let text = value.ok_or(Refusal::Form)?;
-    let n = number(text).ok_or(Refusal::Form)?;
+    let n = number(text)?;
     if u32::from(low) <= n && n <= u32::from(high) {
         Ok(n)
     } else {
@@ -67,14 +67,14 @@ pub(crate) fn len_in(value: Option<&[u8]>, at: u32, cells: u32) -> Result<u32, R
 }
 
 // The sharing rule that a word names.
-fn rule_named(text: &[u8]) -> Option<SharingRule>
+fn rule_named(text: &[u8]) -> Result<SharingRule, Refusal>
     ensures { λ r. ⌜ Named (now (text .entry)) r ⌝ }
 {
     match text {
-        b"new" => Some(SharingRule::New),
-        b"old" => Some(SharingRule::Old),
-        b"both" => Some(SharingRule::Both),
-        _ => None,
+        b"new" => Ok(SharingRule::New),
+        b"old" => Ok(SharingRule::Old),
+        b"both" => Ok(SharingRule::Both),
+        _ => Err(Refusal::Form),
     }
 }
 
@@ -83,7 +83,7 @@ pub(crate) fn rule_in(value: Option<&[u8]>) -> Result<SharingRule, Refusal>
     ensures { λ r. ⌜ r ≡ ruled (mapped now (value .entry)) ⌝ }
 {
     let text = value.ok_or(Refusal::Form)?;
-    rule_named(text).ok_or(Refusal::Form)
+    rule_named(text)
 }
 
 // How many numbers a list has: with those before at most `most`, each at most the number of objects.
@@ -91,9 +91,7 @@ fn count_in(text: &[u8], before: usize, most: u32, objects: u32) -> Result<usize
     ensures value { λ r. ⌜ r ≡ counted before most objects (now (text .entry)) ⌝ }
     ensures counts { λ r. ⌜ made r (λ n. NumbersIn (now (text .entry)) n × (before + n ≤ most)) ⌝ }
 {
-    let Some(list) = survey_list(text) else {
-        return Err(Refusal::Form);
-    };
+    let list = survey_list(text)?;
     let total = before.saturating_add(list.count);
     if list.largest > 65535 || total > most as usize {
         return Err(Refusal::Range);

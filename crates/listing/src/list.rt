@@ -8,6 +8,7 @@ ghost use Rattle.std.specs.declared.option.Option.the-variants.{Some, None};
 ghost use Rattle.listing.specs.Pieces.{upTo, past, pieces, listed};
 ghost use Rattle.listing.specs.Survey.{surveyed};
 use crate::number::number;
+use refusal::Refusal;
 
 // What stands before the first separator, and what stands behind it.
 pub(crate) fn cut(text: &[u8], sep: u8) -> (&[u8], Option<&[u8]>)
@@ -31,7 +32,7 @@ pub struct Survey {
 }
 
 // The numbers of a list that is not empty.
-fn survey_some(text: &[u8]) -> Option<Survey>
+fn survey_some(text: &[u8]) -> Result<Survey, Refusal>
     ensures { λ r. ⌜ r ≡ surveyed (pieces 44 (now (text .entry))) ⌝ }
 {
     let mut rest = text;
@@ -41,26 +42,24 @@ fn survey_some(text: &[u8]) -> Option<Survey>
     };
     loop {
         let (piece, more) = cut(rest, b',');
-        let Some(n) = number(piece) else {
-            return None;
-        };
+        let n = number(piece)?;
         seen = Survey {
             count: seen.count + 1,
             largest: seen.largest.max(n),
         };
         match more {
             Some(next) => rest = next,
-            None => return Some(seen),
+            None => return Ok(seen),
         }
     }
 }
 
-// Zero or more numbers with single commas between; none where the text is no such list.
-pub(crate) fn survey_list(text: &[u8]) -> Option<Survey>
+// Zero or more numbers with single commas between; another text is a fault in form.
+pub(crate) fn survey_list(text: &[u8]) -> Result<Survey, Refusal>
     ensures { λ r. ⌜ r ≡ surveyed (listed (now (text .entry))) ⌝ }
 {
     match text {
-        [] => Some(Survey {
+        [] => Ok(Survey {
             count: 0,
             largest: 0,
         }),
