@@ -10,9 +10,9 @@ use Rattle.std.specs.Options.{valueOr}
 use Rattle.std.specs.declared.option.Option.{Option}
 use Rattle.std.specs.declared.option.Option.the-variants.{Some, None}
 use Rattle.std.proofs.shelf.Lists.{length-map}
-use Rattle.std.proofs.shelf.Tests.{and-parts}
+use Rattle.std.proofs.shelf.Tests.{and-parts, cond-true}
 use Rattle.listing.specs.Numeral.{numeral, valueOf}
-use Rattle.listing.specs.Pieces.{upTo, past, pieces, listed, allNumerals, numerals, numbers, largest}
+use Rattle.listing.specs.Pieces.{upTo, past, pieces, listed, allNumerals, numerals, numbers, firstNumber, largest}
 use Rattle.listing.specs.Survey.{NumbersIn}
 use Rattle.listing.proofs.Cuts.{pieces-step, piecesOf, pieces-more, pieces-last}
 
@@ -56,11 +56,12 @@ getD-largest (x ∷ xs) (suc i) = let h = getD-largest xs i in omega arith
 
 -- a number that was read is the one at its place
 pub number-at : (text : List ℕ) (count i : ℕ) (rest : List ℕ) (n : ℕ) → NumbersIn text count → i < count → rest ≡ afterNumbers i text
-    → (numeral (upTo 44 rest) ≡ true → valueOf (upTo 44 rest) ≤ 65535 → n ≡ valueOf (upTo 44 rest)) → n ≡ getD (numbers text) i 0
+    → n ≡ firstNumber rest → n ≡ getD (numbers text) i 0
 number-at [] count i rest n s l e f = absurd (omega (arith, s .counted))
 number-at (b ∷ bs) count i rest n s l e f =
     let m = length-map (pieces 44 (b ∷ bs)) valueOf in
     let p = at-place i (b ∷ bs) (omega (arith, s .counted)) (s .formed) in
     let v : valueOf (upTo 44 rest) ≡ getD (numbers (b ∷ bs)) i 0 = ap (λ t. valueOf (upTo 44 t)) e ∙ sym (p .1) in
     let q : valueOf (upTo 44 rest) ≤ 65535 = omega (arith, v, getD-largest (numbers (b ∷ bs)) i, s .small) in
-    f (ap (λ t. numeral (upTo 44 t)) e ∙ p .0) q ∙ v
+    let c = cond-true (numeral (upTo 44 rest)) (valueOf (upTo 44 rest)) 0 (ap (λ t. numeral (upTo 44 t)) e ∙ p .0) in
+    omega (arith, f, c, v, q)

@@ -1,7 +1,7 @@
 -- What separators cut a text into, and lists of numbers. Assumes nothing.
 use mathlib.Core.List.{List, [], _∷_, _++_, map}
 use mathlib.Core.Bool.{Bool, true, false, cond, _&&_}
-use Prim.Native.Nat.{ℕ, max}
+use Prim.Native.Nat.{ℕ, max, min}
 use lib.Dec.{eqb}
 use Rattle.std.specs.declared.option.Option.{Option}
 use Rattle.std.specs.declared.option.Option.the-variants.{Some, None}
@@ -43,6 +43,10 @@ numerals text = allNumerals (listed text)
 
 abbrev pub numbers : List ℕ → List ℕ
 numbers text = map valueOf (listed text)
+
+-- the first number of a list; what is no number counts as 0, and one above 65,535 as that
+abbrev pub firstNumber : List ℕ → ℕ
+firstNumber text = min (cond (numeral (upTo 44 text)) (valueOf (upTo 44 text)) 0) 65535
 
 abbrev pub largest : List ℕ → ℕ
 largest [] = 0

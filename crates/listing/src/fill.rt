@@ -1,5 +1,4 @@
 ghost use mathlib.Core.Path.{_≡_};
-ghost use mathlib.Core.Bool.{true};
 ghost use mathlib.Core.List.{[]};
 ghost use Prim.Native.Nat.{ℕ, _+_, _≤_};
 ghost use lib.ListN.{length};
@@ -12,8 +11,7 @@ ghost use Rattle.heap.specs.Handed.{tablesOf};
 ghost use Rattle.listing.specs.Rules.{Objects};
 ghost use Rattle.listing.specs.Judge.{judgeText};
 ghost use Rattle.listing.specs.declared.settings.Settings.{Settings};
-ghost use Rattle.listing.specs.Numeral.{numeral, valueOf};
-ghost use Rattle.listing.specs.Pieces.{upTo, past, numbers};
+ghost use Rattle.listing.specs.Pieces.{past, firstNumber, numbers};
 ghost use Rattle.listing.specs.Survey.{NumbersIn};
 ghost use Rattle.listing.specs.Filling.{SameLenders, withReferences, withRoots, withHeap, BodyFits, ObjectsFilled};
 use crate::line::NumberList;
@@ -26,9 +24,9 @@ use heap::CheckedHeap;
 use heap::ObjectEntry;
 use refusal::Fault;
 
-// The first number of a list, and the list behind it.
+// The first number of a list, and the list behind it; what is no number counts as 0, and one above 65,535 as that.
 fn first_number(list: &[u8]) -> (u16, &[u8])
-    ensures number { λ r. ⌜ (numeral (upTo 44 (now (list .entry))) ≡ true → valueOf (upTo 44 (now (list .entry))) ≤ 65535 → r .0 ≡ valueOf (upTo 44 (now (list .entry)))) ⌝ }
+    ensures number { λ r. ⌜ r .0 ≡ firstNumber (now (list .entry)) ⌝ }
     ensures rest { λ r. ⌜ now (r .1) ≡ valueOr (past 44 (now (list .entry))) [] ⌝ }
 {
     let (piece, more) = cut(list, b',');
