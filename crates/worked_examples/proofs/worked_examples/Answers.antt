@@ -1,10 +1,11 @@
+use borrow.Author.Needs.{needs}
 use mathlib.Core.Path.{refl}
 use Rattle.worked_examples.proofs.worked_examples.Needs as need
 
 pub returns : need.returns
 returns c =
     record {
-      number = refl;
+      number = search needs;
       as-it-stands = refl;
       last-ends-with-the-heap = refl;
       last-ends-past-the-heap = refl;
