@@ -1,18 +1,18 @@
 -- What is known of each place of the tables that hold a lawful heap.
-use Prim.Native.Nat.{ℕ, zero, suc, _+_, _-_, _≤_, _<_, min}
-use mathlib.Core.Path.{_≡_, refl, sym, ap, subst, _∙_}
-use mathlib.Core.List.{List, [], _∷_, _++_, map}
+use Prim.Native.Nat.{ℕ, zero, suc, _+_, _-_, _≤_, _<_}
+use mathlib.Core.Path.{_≡_, refl, sym, ap, _∙_}
+use mathlib.Core.List.{List, [], _∷_, _++_}
 use native.Mathlib.Omega.{arith}
-use native.Mathlib.Nat.{add-assoc, add-zero, zero-add}
+use native.Mathlib.Nat.{add-zero, zero-add}
 use native.Mathlib.Numerals.{add-one}
-use lib.ListN.{length, getD, take, drop}
-use Rattle.std.specs.shelf.Lists.{All, sumBy, joined}
-use Rattle.std.proofs.shelf.Lists.{length-append, length-drop, getD-append-left, take-append-le, take-all, getD-drop, take-at, drop-at, append-assoc}
+use lib.ListN.{length, take, drop}
+use Rattle.std.specs.shelf.Lists.{All, sumBy}
+use Rattle.std.proofs.shelf.Lists.{length-append, getD-append-left, take-append-le, take-all, take-at, drop-at, append-assoc}
 use Rattle.std.proofs.shelf.Sums.{sumBy-cons}
 use Rattle.std.proofs.shelf.Elements.{all-append, all-getD}
 use Rattle.heap.specs.declared.entry.ObjectEntry.{ObjectEntry}
 use Rattle.heap.specs.Kept.{Kept}
-use Rattle.heap.specs.Heap.{Object, Heap, Laid, Lawful, sectionsOf, referencesIn}
+use Rattle.heap.specs.Heap.{Object, Heap, Laid, Lawful, referencesIn}
 use Rattle.heap.specs.Tables.{Tables, blank, entryAt, countedTo, objectIn, objectsIn, entriesFrom, referencesOf, filled, heapIn}
 
 pub length-entries : (first : ℕ) (os : List Object) → length (entriesFrom first os) ≡ length os

@@ -1,20 +1,20 @@
 -- The law of a heap, from what is known of each place of its tables.
-use Prim.Native.Nat.{ℕ, suc, _+_, _-_, _≤_, _<_, min}
-use mathlib.Core.Path.{_≡_, refl, sym, ap, subst, _∙_}
-use mathlib.Core.List.{List, [], _∷_, _++_, map}
+use Prim.Native.Nat.{ℕ, suc, _+_, _-_, _≤_, _<_}
+use mathlib.Core.Path.{_≡_, refl, sym, subst, _∙_}
+use mathlib.Core.List.{List, [], _∷_}
 use native.Mathlib.Omega.{arith}
 use native.Mathlib.Numerals.{add-one}
 use lib.ListN.{length, getD, take, drop}
 use denote.Ref.{now}
 use Rattle.std.specs.shelf.Lists.{All, sumBy}
-use Rattle.std.proofs.shelf.Lists.{length-take, length-drop, length-map, length-take-le, getD-take, getD-drop, take-take, take-more, getD-default}
+use Rattle.std.proofs.shelf.Lists.{length-take, length-drop, length-map, length-take-le, getD-take, getD-drop, take-take}
 use Rattle.std.proofs.shelf.Sums.{sumBy-cons, sumBy-more, sumBy-take-le}
 use Rattle.std.proofs.shelf.Elements.{all-from-getD}
 use Rattle.heap.specs.declared.entry.ObjectEntry.{ObjectEntry}
 use Rattle.heap.specs.declared.checked.CheckedHeap.{CheckedHeap}
-use Rattle.heap.specs.Heap.{Object, Heap, Laid, Lawful, referencesIn, cellsIn}
+use Rattle.heap.specs.Heap.{Object, Laid, Lawful, referencesIn, cellsIn}
 use Rattle.heap.specs.Tables.{blank, entryAt, countedTo, objectIn, objectsIn}
-use Rattle.heap.specs.Handed.{tablesOf, heapOf}
+use Rattle.heap.specs.Handed.{heapOf}
 
 -- part of a list of which each place is known
 part-known : (refs : List ℕ) (first count n most : ℕ) → ((k : ℕ) → k < n → getD refs k 0 ≤ most) → first + count ≤ n → n ≤ length refs

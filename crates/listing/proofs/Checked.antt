@@ -1,10 +1,9 @@
 -- A whole listing, from what is read of its parts.
-use mathlib.Core.Path.{_≡_, refl, sym, ap, _∙_}
-use mathlib.Core.List.{List, [], _∷_, _++_}
-use Prim.Native.Nat.{ℕ, _+_, _*_, _<_, _≤_}
+use mathlib.Core.Path.{_≡_, sym, ap, _∙_}
+use mathlib.Core.List.{List, [], _∷_}
+use Prim.Native.Nat.{ℕ, _+_, _*_, _<_}
 use native.Mathlib.Omega.{arith}
 use lib.ListN.{length}
-use Rattle.std.specs.declared.result.Result.{Result}
 use Rattle.std.specs.declared.result.Result.the-variants.{Ok, Err}
 use Rattle.refusal.specs.declared.Fault.{Fault}
 use Rattle.refusal.specs.declared.Refusal.the-variants.{Form}
@@ -12,7 +11,6 @@ use Rattle.refusal.specs.Table.{fault}
 use Rattle.heap.specs.Heap.{Heap, Object, referencesIn}
 use Rattle.listing.specs.declared.settings.Header.{Header}
 use Rattle.listing.specs.declared.settings.Settings.{Settings}
-use Rattle.listing.specs.declared.check.Totals.{Totals}
 use Rattle.listing.specs.Pieces.{numbers}
 use Rattle.listing.specs.Lines.{readHeader, readRoots}
 use Rattle.listing.specs.Rules.{Objects, Roots}

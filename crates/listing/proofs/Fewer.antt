@@ -1,7 +1,7 @@
 -- What is read of an accepted listing is part of its heap.
-use mathlib.Core.Path.{_≡_, refl, sym, ap, _∙_}
+use mathlib.Core.Path.{_≡_, refl, ap}
 use mathlib.Core.Bool.{Bool, true, false, cond}
-use mathlib.Core.List.{List, [], _∷_, _++_}
+use mathlib.Core.List.{List, [], _∷_}
 use Prim.Native.Nat.{ℕ, zero, suc, _+_, _≤_}
 use native.Mathlib.Omega.{arith}
 use lib.ListN.{length}
@@ -12,7 +12,6 @@ use Rattle.std.specs.declared.result.Result.the-variants.{Ok, Err}
 use Rattle.std.proofs.shelf.Sums.{sumBy-push}
 use Rattle.refusal.specs.declared.Refusal.{Refusal}
 use Rattle.refusal.specs.declared.Refusal.the-variants.{Form, Range, Overlap, Stranger}
-use Rattle.refusal.specs.declared.Fault.{Fault}
 use Rattle.heap.specs.Heap.{Heap, Object, referencesIn}
 use Rattle.listing.specs.declared.settings.Settings.{Settings}
 use Rattle.listing.specs.Pieces.{linesOf, numbers}

@@ -1,8 +1,8 @@
 -- The numbers of a list, one after the other.
 use mathlib.Core.Path.{_≡_, refl, sym, ap, _∙_}
-use mathlib.Core.Bool.{Bool, true, false, cond, _&&_}
+use mathlib.Core.Bool.{true}
 use mathlib.Core.List.{List, [], _∷_, map}
-use Prim.Native.Nat.{ℕ, zero, suc, _+_, _<_, _≤_, max}
+use Prim.Native.Nat.{ℕ, zero, suc, _+_, _<_, _≤_}
 use native.Mathlib.Omega.{arith}
 use native.Mathlib.Numerals.{add-one}
 use lib.ListN.{length, getD}
@@ -12,7 +12,7 @@ use Rattle.std.specs.declared.option.Option.the-variants.{Some, None}
 use Rattle.std.proofs.shelf.Lists.{length-map}
 use Rattle.std.proofs.shelf.Tests.{and-parts, cond-true}
 use Rattle.listing.specs.Numeral.{numeral, valueOf}
-use Rattle.listing.specs.Pieces.{upTo, past, pieces, listed, allNumerals, numerals, numbers, firstNumber, largest}
+use Rattle.listing.specs.Pieces.{upTo, past, pieces, allNumerals, numbers, firstNumber, largest}
 use Rattle.listing.specs.Survey.{NumbersIn}
 use Rattle.listing.proofs.Cuts.{pieces-step, piecesOf, pieces-more, pieces-last}
 

@@ -2,7 +2,7 @@
 use mathlib.Core.Path.{_≡_, refl, sym, ap, subst, _∙_}
 use mathlib.Core.Bool.{Bool, true, false, cond}
 use mathlib.Core.List.{List}
-use mathlib.Core.Logic.{_⊎_, inl, inr}
+use mathlib.Core.Logic.{inl, inr}
 use Prim.Native.Nat.{ℕ}
 use native.Mathlib.Omega.{arith}
 use Rattle.std.specs.declared.result.Result.{Result}
@@ -15,7 +15,7 @@ use Rattle.heap.specs.Tables.{Tables, heapIn, filled}
 use Rattle.heap.proofs.Filled.{heap-back}
 use Rattle.listing.specs.declared.settings.Settings.{Settings}
 use Rattle.listing.specs.Judge.{judge}
-use Rattle.listing.specs.Laws.{Fitting, Cramped, RefusedFor}
+use Rattle.listing.specs.Laws.{Fitting, RefusedFor}
 use Rattle.listing.specs.Reader.{roomIn, answered, leftIn}
 use Rattle.listing.proofs.Accepting.{exact}
 use Rattle.listing.proofs.Refusing.{first}

@@ -1,5 +1,5 @@
 -- Tables that have room for an accepted listing.
-use mathlib.Core.Path.{_≡_, refl, sym, ap, subst, _∙_}
+use mathlib.Core.Path.{_≡_, sym, ap, subst, _∙_}
 use mathlib.Core.Bool.{Bool, true, false, cond}
 use mathlib.Core.List.{List}
 use Prim.Native.Nat.{ℕ, _≤_}
@@ -10,7 +10,7 @@ use Rattle.std.proofs.shelf.Tests.{and-parts, leb-true}
 use Rattle.std.specs.declared.result.Result.the-variants.{Ok, Err}
 use Rattle.refusal.specs.declared.Refusal.the-variants.{Memory}
 use Rattle.refusal.specs.Table.{fault}
-use Rattle.heap.specs.Heap.{Heap, referencesIn}
+use Rattle.heap.specs.Heap.{referencesIn}
 use Rattle.heap.specs.Kept.{Kept}
 use Rattle.heap.specs.Tables.{Tables, emptyOver, filled}
 use Rattle.heap.proofs.Filled.{filled-kept}

@@ -13,21 +13,19 @@ use Rattle.std.specs.declared.option.Option.{Option}
 use Rattle.std.specs.declared.option.Option.the-variants.{Some, None}
 use Rattle.std.specs.declared.result.Result.{Result}
 use Rattle.std.specs.declared.result.Result.the-variants.{Ok, Err}
-use Rattle.refusal.specs.declared.Fault.{Fault}
 use Rattle.refusal.specs.declared.Refusal.{Refusal}
 use Rattle.refusal.specs.declared.Refusal.the-variants.{Form, Range, Overlap, Stranger}
 use Rattle.refusal.specs.Table.{fault}
-use Rattle.heap.specs.Heap.{Heap, Object, sectionsOf, endFrom, referencesIn}
+use Rattle.heap.specs.Heap.{Object, sectionsOf, endFrom, referencesIn}
 use Rattle.listing.specs.declared.settings.Header.{Header}
-use Rattle.listing.specs.declared.settings.Settings.{Settings}
 use Rattle.listing.specs.declared.settings.SharingRule.{SharingRule}
 use Rattle.listing.specs.declared.settings.SharingRule.the-variants.{New}
 use Rattle.listing.specs.Numeral.{numeral, valueOf, within}
 use Rattle.listing.specs.Pieces.{linesOf, upTo, past, numbers, numerals, largest}
-use Rattle.listing.specs.Lines.{numbered, widthIn, atIn, lenIn, orForm, ruled, counted, listIn, lineBy, lineOf, readLine, readCells, readWidth, readMarkers, readShare, readObjects, readAt, readLen, readRefs, readRoots, readHeader, readObject}
+use Rattle.listing.specs.Lines.{numbered, widthIn, orForm, ruled, listIn, lineBy, readLine, readCells, readWidth, readMarkers, readShare, readObjects, readAt, readLen, readRefs, readRoots, readHeader, readObject}
 use Rattle.listing.specs.Rules.{Before, Start, Cells, Width, Markers, Share, Objects, At, Len, Roots, ruleNamed}
 use Rattle.listing.specs.Judge.{then, onLine, behind, judgeValue, judgeLine, judgeFrom, judgeText, whole, ending, saying}
-use Rattle.listing.proofs.Cuts.{pieces-step, piecesOf, pieces-more, pieces-last, upTo-none}
+use Rattle.listing.proofs.Cuts.{pieces-step, pieces-more, pieces-last, upTo-none}
 
 -- chains of readings
 

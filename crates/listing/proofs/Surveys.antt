@@ -5,7 +5,6 @@ use mathlib.Core.List.{List, [], _∷_, map}
 use Prim.Native.Nat.{ℕ, _+_, _-_, _^_, _<_, _≤_, min, max}
 use native.Mathlib.Omega.{arith}
 use lib.ListN.{length}
-use Rattle.std.specs.declared.option.Option.{Option}
 use Rattle.std.specs.declared.option.Option.the-variants.{Some, None}
 use lib.Dec.{leb}
 use Rattle.std.proofs.shelf.Lists.{length-map}
@@ -77,11 +76,6 @@ survey-facts : (v : List ℕ) (s : Survey) → Ok s ≡ surveyed (listed v) → 
 survey-facts v s e =
     let h = ok-cond (numerals v) (record { count = length (listed v); largest = min (largest (numbers v)) top }) s e in
     (h .0, ap (λ t. t .count) (h .1) ∙ sym (length-map (listed v) valueOf), ap (λ t. t .largest) (h .1))
-
-pub count-form : (b m o : ℕ) (v : List ℕ) (y : Refusal) → Err y ≡ surveyed (listed v) → Err y ≡ counted b m o v
-count-form b m o v y e =
-    let h = err-cond (numerals v) (record { count = length (listed v); largest = min (largest (numbers v)) top }) y e in
-    rw (h .0) (ap Err (h .1))
 
 pub count-large : (b m o : ℕ) (v : List ℕ) (s : Survey) → Ok s ≡ surveyed (listed v) → 65535 < s .largest → Err Range ≡ counted b m o v
 count-large b m o v s e l =

@@ -1,12 +1,12 @@
 -- Filling the tables, one object after the other.
-use mathlib.Core.Path.{_≡_, refl, sym, ap, _∙_}
+use mathlib.Core.Path.{_≡_, sym, ap, _∙_}
 use mathlib.Core.List.{List, [], _∷_, _++_}
-use Prim.Native.Nat.{ℕ, suc, _+_, _-_, _<_, _≤_}
+use Prim.Native.Nat.{ℕ, _+_, _-_, _<_, _≤_}
 use native.Mathlib.Omega.{arith}
-use native.Mathlib.Nat.{add-assoc, add-zero, zero-add}
+use native.Mathlib.Nat.{add-zero, zero-add}
 use lib.ListN.{length, getD, take, drop, set}
-use Rattle.std.specs.shelf.Lists.{sumBy, joined, paste}
-use Rattle.std.proofs.shelf.Lists.{append-assoc, length-append, length-drop, length-push, drop-drop, drop-at, drop-more, take-at, take-all, set-at, joined-more}
+use Rattle.std.specs.shelf.Lists.{paste}
+use Rattle.std.proofs.shelf.Lists.{append-assoc, length-append, length-drop, length-push, drop-drop, drop-at, drop-more, take-at, set-at, joined-more}
 use Rattle.std.proofs.shelf.Edits.{paste-all}
 use Rattle.std.proofs.shelf.Sums.{sumBy-push, sumBy-cons}
 use Rattle.heap.specs.declared.entry.ObjectEntry.{ObjectEntry}

@@ -6,7 +6,6 @@ use denote.Ref.{name}
 use lib.ListN.{length, drop}
 use Rattle.std.specs.declared.result.Result.the-variants.{Ok}
 use Rattle.heap.specs.declared.checked.CheckedHeap.{CheckedHeap}
-use Rattle.heap.specs.declared.entry.ObjectEntry.{ObjectEntry}
 use Rattle.heap.specs.Heap.{Heap, Object, referencesIn}
 use Rattle.heap.specs.Tables.{Tables, entriesFrom, referencesOf, filled}
 use Rattle.listing.specs.declared.settings.Header.{Header}

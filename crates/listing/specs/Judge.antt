@@ -1,6 +1,6 @@
 -- What a text means: the one heap and settings that it lists, or the first fault in it. Assumes nothing.
 use mathlib.Core.List.{List, [], _∷_, _++_}
-use mathlib.Core.Bool.{Bool, true, false, cond}
+use mathlib.Core.Bool.{cond}
 use Prim.Native.Nat.{ℕ, _+_}
 use lib.Dec.{eqb}
 use Rattle.std.specs.declared.option.Option.{Option}
@@ -11,8 +11,7 @@ use Rattle.refusal.specs.declared.Fault.{Fault}
 use Rattle.refusal.specs.declared.Refusal.{Refusal}
 use Rattle.refusal.specs.declared.Refusal.the-variants.{Form, Range, Overlap, Stranger}
 use Rattle.refusal.specs.Table.{fault}
-use Rattle.heap.specs.Heap.{Heap, Object}
-use Rattle.listing.specs.declared.settings.Header.{Header}
+use Rattle.heap.specs.Heap.{Heap}
 use Rattle.listing.specs.declared.settings.Settings.{Settings}
 use Rattle.listing.specs.Pieces.{linesOf}
 use Rattle.listing.specs.Rules.{Before, Start, Cells, Width, Markers, Share, Objects, At, Len, Roots, keyDue, formed, bounded, apart, known, after}

@@ -1,6 +1,6 @@
 -- What separators cut a text into, and lists of numbers. Assumes nothing.
-use mathlib.Core.List.{List, [], _∷_, _++_, map}
-use mathlib.Core.Bool.{Bool, true, false, cond, _&&_}
+use mathlib.Core.List.{List, [], _∷_, map}
+use mathlib.Core.Bool.{Bool, true, cond, _&&_}
 use Prim.Native.Nat.{ℕ, max, min}
 use lib.Dec.{eqb}
 use Rattle.std.specs.declared.option.Option.{Option}

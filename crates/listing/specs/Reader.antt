@@ -1,7 +1,5 @@
 -- What `read` answers, and what the heap then holds. Assumes nothing.
-use mathlib.Core.List.{List}
 use mathlib.Core.Bool.{Bool, cond, _&&_}
-use Prim.Native.Nat.{ℕ}
 use lib.Dec.{leb}
 use lib.ListN.{length}
 use Rattle.std.specs.declared.result.Result.{Result}
@@ -13,7 +11,6 @@ use Rattle.heap.specs.Heap.{Heap, referencesIn}
 use Rattle.heap.specs.Tables.{Tables, filled}
 use Rattle.listing.specs.declared.settings.Settings.{Settings}
 use Rattle.listing.specs.declared.check.Totals.{Totals}
-use Rattle.listing.specs.Reading.{totalsOf}
 
 abbrev pub roomFor : Totals → Tables → Bool
 roomFor n t = leb (n .header .objects) (length (t .object-table)) && (leb (n .references) (length (t .reference-table)) && leb (n .roots) (length (t .root-table)))

@@ -8,7 +8,7 @@ use lib.ListN.{length}
 use Rattle.std.specs.Options.{isSome, valueOr}
 use Rattle.std.specs.declared.option.Option.{Option}
 use Rattle.std.specs.declared.option.Option.the-variants.{Some, None}
-use Rattle.heap.specs.Heap.{Heap, Object, sectionsOf, referencesIn, endFrom}
+use Rattle.heap.specs.Heap.{Object, sectionsOf, referencesIn, endFrom}
 use Rattle.listing.specs.declared.settings.SharingRule.{SharingRule}
 use Rattle.listing.specs.declared.settings.SharingRule.the-variants.{New, Old, Both}
 use Rattle.listing.specs.declared.settings.Header.{Header}

@@ -1,17 +1,14 @@
 -- Tables of full size suffice for every listing, so what is read is what is judged.
-use mathlib.Core.Path.{_≡_, sym, ap, _∙_}
-use mathlib.Core.Bool.{true, false, cond}
+use mathlib.Core.Path.{_≡_, ap, _∙_}
+use mathlib.Core.Bool.{true}
 use mathlib.Core.List.{List}
 use mathlib.Core.Logic.{inl, inr}
 use Prim.Native.Nat.{ℕ, _≤_, _<_}
 use native.Mathlib.Omega.{arith}
-use lib.Dec.{ltb}
 use lib.ListN.{length}
-use Rattle.std.proofs.shelf.Tests.{and-from, le-leb, le-ltb, lt-ltb, both-ways}
+use Rattle.std.proofs.shelf.Tests.{and-from, le-leb, le-ltb, both-ways}
 use Rattle.std.specs.declared.result.Result.the-variants.{Ok, Err}
 use Rattle.refusal.specs.declared.Fault.{Fault}
-use Rattle.refusal.specs.declared.Refusal.the-variants.{Memory}
-use Rattle.refusal.specs.Table.{fault}
 use Rattle.heap.specs.Heap.{Heap, Lawful, referencesIn}
 use Rattle.heap.specs.Tables.{Tables}
 use Rattle.listing.specs.declared.settings.Settings.{Settings}
@@ -38,9 +35,6 @@ err-judged text t f o e r (inr x) = absurd (both-ways _ (x .1 .short) (always-ro
 
 pub short-text : (text : List ℕ) → length text ≤ longest → judge text ≡ judgedUpTo text
 short-text text l = let q = le-ltb longest (length text) l in rw q
-
-pub long-text : (text : List ℕ) (n : ℕ) → n ≡ longest → n < length text → Err (fault Memory 0) ≡ judgedUpTo text
-long-text text n e l = let q = lt-ltb longest (length text) (omega arith) in rw q
 
 -- a length that two names of one list share
 pub long-enough : {X : Type 0} (n : ℕ) (xs ys : List X) → xs ≡ ys → n ≤ length ys → n ≤ length xs

@@ -6,7 +6,7 @@ use lib.Chars.{codes}
 use Rattle.std.specs.declared.result.Result.the-variants.{Ok, Err}
 use Rattle.refusal.specs.declared.Refusal.the-variants.{Form, Range, Overlap, Stranger}
 use Rattle.refusal.specs.Table.{fault}
-use Rattle.heap.specs.Heap.{Heap, Object}
+use Rattle.heap.specs.Heap.{Heap}
 use Rattle.listing.specs.declared.settings.Settings.{Settings}
 use Rattle.listing.specs.declared.settings.SharingRule.the-variants.{Old}
 use Rattle.listing.specs.Judge.{judge}

@@ -1,14 +1,9 @@
 use mathlib.Core.Path.{_≡_, refl, sym, ap, _∙_}
-use mathlib.Core.List.{List, _∷_, [], _++_}
-use Prim.Native.Nat.{ℕ, _+_, _-_, _<_, _≤_}
+use Prim.Native.Nat.{ℕ, _+_, _-_}
 use native.Mathlib.Omega.{arith}
-use lib.ListN.{length}
-use Rattle.std.proofs.shelf.Results.{err-from-errBy}
-use Rattle.heap.specs.Heap.{Object, referencesIn}
 use Rattle.heap.specs.Handed.{tablesOf}
-use Rattle.listing.specs.Pieces.{numbers}
 use Rattle.listing.specs.Rules.{Objects}
-use Rattle.listing.proofs.Progress.{Objects-so-far, none-so-far, one-more-so-far, stop-so-far, all-so-far}
+use Rattle.listing.proofs.Progress.{none-so-far, one-more-so-far, stop-so-far}
 use Rattle.listing.proofs.Stepping.{objectRead}
 use Rattle.listing.proofs.Fewer.{references-within}
 use Rattle.listing.proofs.Tables.{filled-more, length-filled}

@@ -1,13 +1,13 @@
 use mathlib.Core.Path.{_≡_, refl, sym, ap, _∙_}
 use mathlib.Core.List.{[]}
-use Prim.Native.Nat.{_+_, _<_}
+use Prim.Native.Nat.{_+_}
 use Rattle.std.specs.Options.{valueOr}
 use native.Mathlib.Omega.{arith}
 use native.Mathlib.Nat.{zero-add}
-use lib.ListN.{length, getD, set}
+use lib.ListN.{set}
 use Rattle.std.specs.shelf.Lists.{paste}
 use Rattle.std.proofs.shelf.Lists.{length-set}
-use Rattle.std.proofs.shelf.Edits.{paste-none, paste-more, length-paste}
+use Rattle.std.proofs.shelf.Edits.{paste-none, paste-more}
 use Rattle.heap.specs.Handed.{tablesOf}
 use Rattle.listing.specs.Pieces.{past, numbers}
 use Rattle.listing.specs.Filling.{withRoots}

@@ -1,10 +1,10 @@
-use mathlib.Core.Path.{_≡_, refl, sym, ap, _∙_}
-use Prim.Native.Nat.{ℕ, _+_, _*_, _≤_}
+use mathlib.Core.Path.{_≡_, sym, ap, _∙_}
+use Prim.Native.Nat.{_+_, _*_}
 use native.Mathlib.Omega.{arith}
 use lib.ListN.{length}
 use Rattle.heap.specs.Handed.{tablesOf}
 use Rattle.listing.specs.Pieces.{numbers}
-use Rattle.listing.proofs.Checked.{heapRead, same-heap, no-root-fault}
+use Rattle.listing.proofs.Checked.{same-heap, no-root-fault}
 use Rattle.listing.proofs.Tables.{roots-filled}
 use Rattle.listing.proofs.fill.fill_tables.Needs as need
 

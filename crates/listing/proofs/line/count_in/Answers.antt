@@ -1,4 +1,3 @@
-use mathlib.Core.Path.{_≡_, sym}
 use Rattle.listing.proofs.Surveys.{count-large, count-many, count-stranger, count-right}
 use Rattle.listing.proofs.line.count_in.Needs as need
 use Rattle.listing.proofs.line.count_in.Needs.{then-list-gt65535·by·then-list-gt65535, then-list-gt65535·by·else-list-gt65535·then-total-most}

@@ -1,11 +1,4 @@
-use mathlib.Core.Path.{_≡_, refl, sym, ap, _∙_}
-use mathlib.Core.List.{List, _++_}
-use Prim.Native.Nat.{ℕ}
-use lib.Chars.{codes}
 use Rattle.std.specs.Of.String.{string-bytes}
-use Rattle.std.specs.Written.{decimal}
-use Rattle.listing.specs.Rules.{wordOf}
-use Rattle.sheet.specs.Texts.{pair}
 use Rattle.heap.proofs.Laid.{counts}
 use Rattle.sheet.proofs.Sheets.{sheet-lines}
 use Rattle.sheet.proofs.texts.sheet_text.Needs as need

@@ -1,5 +1,4 @@
 use borrow.Author.Needs.{needs}
-use native.Mathlib.Omega.{arith}
 use Rattle.heap.proofs.Laid.{lawful}
 use Rattle.heap.proofs.Sections.{some-section}
 use Rattle.heap.proofs.checked.CheckedHeap.sections.Needs as need
