@@ -1,4 +1,6 @@
 // Judges the listing in a file or on standard input, and prints its sheet or its refusal.
+#![tactic(auto)]
+
 use anyhow::anyhow;
 use sheet::{help_text, judge_listing, longest_listing};
 use std::env;

@@ -1,4 +1,6 @@
 // One deque for every kind of element, over places that its user lends. After the last place comes the first again.
+#![tactic(auto)]
+
 ghost use Rattle.std.specs.Prelude.{◌≡◌, ◌+◌, ◌-◌, ◌<◌, ◌≤◌, length};
 ghost use Rattle.deque.specs.Circle.{wrapped};
 ghost use Rattle.deque.specs.Ends.{fresh, fitted, held_in};

@@ -1,4 +1,6 @@
 // The exchange between markers, and two kinds of it: a ring of entries for each pair, and one pool for all pairs.
+#![tactic(auto)]
+
 mod answer;
 mod meaning;
 mod pairs;

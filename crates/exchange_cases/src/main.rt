@@ -1,4 +1,6 @@
 // Runs a script of calls on an exchange, a line of standard input a call, and prints a line of answer each: docs/EXCHANGE.md has the lines.
+#![tactic(auto)]
+
 mod calls;
 mod line;
 

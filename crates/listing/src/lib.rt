@@ -1,4 +1,6 @@
 // The reader of a listing: number, list, line and listing, each a layer that passes its refusal up.
+#![tactic(auto)]
+
 mod check;
 mod fill;
 mod keys;

@@ -1,6 +1,8 @@
 // Judges many listings, one a line of standard input, by the same call as check_listing. In a line that begins with `>`, / stands for
 // byte 10, %XX for a byte in hexadecimal, and [N:text] for the text N times; other lines are headings. It prints a line a case, with
 // / for byte 10.
+#![tactic(auto)]
+
 ghost use Rattle.std.specs.Prelude.{◌≤◌, length};
 
 use sheet::judge_listing;

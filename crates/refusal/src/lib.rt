@@ -1,4 +1,6 @@
 // Why a call is refused: a closed list, each with a number and a word.
+#![tactic(auto)]
+
 ghost use Rattle.std.specs.Prelude.{◌≡◌};
 ghost use Rattle.refusal.specs.Table.{number_of, word_of};
 

@@ -1,4 +1,6 @@
 // What `check_listing` prints of a text: the sheet of an accepted listing, or its refusal.
+#![tactic(auto)]
+
 mod texts;
 mod verdict;
 

@@ -1,4 +1,6 @@
 // Worked examples of the rules, as one theorem on one function.
+#![tactic(auto)]
+
 ghost use Rattle.worked_examples.specs.Examples.{Examples};
 
 mod stacks;
