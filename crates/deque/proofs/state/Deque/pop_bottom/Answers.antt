@@ -15,7 +15,7 @@ pub returns : goal.returns
 returns g c =
     let s = c.args.self.now in
     let x = get_or s.places.now s.ends.first c.index-self-bottom.result in
-    let after : Ends = record { first = c.place-after-first.result; held = s.ends.held - 1 } in
+    let after : Ends = record { first = c.place_after-first.result; held = s.ends.held - 1 } in
     let p : PopsBottom s.ends after s.places.now s.places.now (Some x) =
     search (rules, window_bottom) in
     record { popped = p; lender = refl; oldest = gives_oldest s.ends after s.places.now s.places.now (Some x) p }
