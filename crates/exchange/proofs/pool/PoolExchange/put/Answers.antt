@@ -8,7 +8,7 @@ pub returns-then-self-ge-MOST : goal.returns-then-self-ge-MOST
 returns-then-self-ge-MOST c =
     let s = c.args.self.now in
     record {
-      meaning = (c.in-ok-q.ensures.0, omega arith, omega (arith, held_waiting (pool_of s) s.known), refl);
+      meaning = (c.in_ok-q.ensures.0, omega arith, omega (arith, held_waiting (pool_of s) s.known), refl);
       memory = (omega (arith, s.bounded), sym (held_waiting (pool_of s) s.known), refl);
       lender = refl;
     }
@@ -16,7 +16,7 @@ returns-then-self-ge-MOST c =
 pub returns : goal.returns
 returns c =
     let s = c.args.self.now in
-    let h = c.in-ok-q.ensures in
+    let h = c.in_ok-q.ensures in
     let two : 2 ≤ s.served = omega (arith, h.0) in
     let after = c.add.ensures.after ∙ ap (λ q. added_to q c.args.task (pool_of s)) h.1 in
     let j = put_joins (pool_of s) c.args.i c.args.j h.0 c.args.task (omega arith) (omega (arith, s.room two)) (pool_of c.add.new.self) after in

@@ -9,7 +9,7 @@ use Rattle.exchange.proofs.pool.PoolExchange.take.Goals as goal
 pub returns-in-Some : goal.returns-in-Some
 returns-in-Some c =
     let s = c.args.self.now in
-    let h = c.in-ok-q.ensures in
+    let h = c.in_ok-q.ensures in
     let two : 2 ≤ s.served = omega (arith, h.0) in
     let found = subst (λ q. newest_of q s.pairs s.held ≡ Some c.in-Some.k) h.1 (sym c.in-Some.ensures.value) in
     let a = c.remove.ensures.after in
@@ -25,6 +25,6 @@ returns-in-Some c =
 pub returns-in-None : goal.returns-in-None
 returns-in-None c =
     let s = c.args.self.now in
-    let h = c.in-ok-q.ensures in
+    let h = c.in_ok-q.ensures in
     let none = subst (λ q. newest_of q s.pairs s.held ≡ None) h.1 (sym c.in-None.ensures.value) in
     record { meaning = (h.0, nothing_newest (pair_at s.served c.args.i c.args.j) s.pairs s.words.now s.held none, refl); memory = (none, refl); lender = refl }

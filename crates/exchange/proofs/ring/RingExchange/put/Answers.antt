@@ -7,17 +7,17 @@ use Rattle.exchange.proofs.ring.RingExchange.put.Goals as goal
 pub returns-then-self-at-ne0 : goal.returns-then-self-at-ne0
 returns-then-self-at-ne0 c =
     let r = c.args.self.now in
-    let q = c.in-ok-q.q in
-    let pair = c.in-ok-q.ensures in
-    let held : get_or r.words.now (tail_entry (ring_of r) q) 0 ≡ 0 → ⊥ = λ z. c.if-self-at-ne0.true (ap (λ k. get_or r.words.now k 0) c.tail-place-at.ensures.value ∙ z) in
+    let q = c.in_ok-q.q in
+    let pair = c.in_ok-q.ensures in
+    let held : get_or r.words.now (tail_entry (ring_of r) q) 0 ≡ 0 → ⊥ = λ z. c.if-self-at-ne0.true (ap (λ k. get_or r.words.now k 0) c.tail_place-at.ensures.value ∙ z) in
     let none = full (ring_of r) (sound r) q pair.2 held in
     record { meaning = (pair.0, omega arith, rw pair.1 at none, refl); memory = (rw pair.1 at held, refl); lender = refl }
 
 pub returns : goal.returns
 returns c =
     let r = c.args.self.now in
-    let q = c.in-ok-q.q in
-    let pair = c.in-ok-q.ensures in
+    let q = c.in_ok-q.q in
+    let pair = c.in_ok-q.ensures in
     let after = c.fill.ensures.after in
     let some : 0 < c.args.task = omega arith in
     let small : q < length r.tails = omega (arith, pair.3) in

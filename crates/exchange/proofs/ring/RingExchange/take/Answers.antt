@@ -8,8 +8,8 @@ use Rattle.exchange.proofs.ring.RingExchange.take.Goals as goal
 pub returns-then-task-eq0 : goal.returns-then-task-eq0
 returns-then-task-eq0 c =
     let r = c.args.self.now in
-    let q = c.in-ok-q.q in
-    let pair = c.in-ok-q.ensures in
+    let q = c.in_ok-q.q in
+    let pair = c.in_ok-q.ensures in
     let vacant : get_or r.words.now (head_entry (ring_of r) q) 0 ≡ 0 = search rules in
     let none = nothing (ring_of r) (sound r) q pair.2 vacant in
     record { meaning = (pair.0, rw pair.1 at none, refl); memory = (rw pair.1 at vacant, refl); lender = refl }
@@ -17,10 +17,10 @@ returns-then-task-eq0 c =
 pub returns : goal.returns
 returns c =
     let r = c.args.self.now in
-    let q = c.in-ok-q.q in
-    let pair = c.in-ok-q.ensures in
+    let q = c.in_ok-q.q in
+    let pair = c.in_ok-q.ensures in
     let after = c.vacate.ensures.after in
-    let at = c.head-place-at.ensures.value in
+    let at = c.head_place-at.ensures.value in
     let small : q < length r.heads = omega (arith, pair.3) in
     let some : 0 < get_or r.words.now (head_entry (ring_of r) q) 0 = rw (← at) (omega arith) in
     let left = take_leaves (ring_of r) (sound r) q pair.2 some small (ring_of c.vacate.new.self) after c.args.i c.args.j pair.0 pair.1 in

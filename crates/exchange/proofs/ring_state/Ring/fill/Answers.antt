@@ -5,7 +5,7 @@ use Rattle.exchange.proofs.RingSteps.{sound, put_sound}
 use Rattle.exchange.proofs.ring_state.Ring.fill.Goals as goal
 
 pub returns : goal.returns
-returns c = record { after = cc (c.requires.entry.0, c.following-entry.ensures); lender = refl }
+returns c = record { after = cc (c.requires.entry.0, c.following_entry.ensures); lender = refl }
 
 pub invariant-of-self : goal.invariant-of-self
 invariant-of-self c =
