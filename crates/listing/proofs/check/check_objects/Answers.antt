@@ -8,17 +8,17 @@ loop-i-init c = none_so_far c.args.header c.args.text.now
 
 pub loop-i-preserved : goal.loop-i-preserved
 loop-i-preserved c =
-    let o = c.in-ok-object.object in
-    let e = c.in-ok-object.ensures in
-    one_more_so_far c.args.header c.args.text.now c.loop-i.-i c.loop-i.number c.loop-i.end c.loop-i.references c.loop-i.rest.now
-    o.at o.len o.refs.count o.refs.text.now c.in-ok-object.behind.now c.loop-i.invariant c.loop-i-test.true e.value e.counts.0.counted e.counts.1
+    let o = c.in_ok-object.object in
+    let e = c.in_ok-object.ensures in
+    one_more_so_far c.args.header c.args.text.now c.loop-i._i c.loop-i.number c.loop-i.end c.loop-i.references c.loop-i.rest.now
+    o.at o.len o.refs.count o.refs.text.now c.in_ok-object.behind.now c.loop-i.invariant c.loop-i-test.true e.value e.counts.0.counted e.counts.1
 
-pub returns-in-err-object : goal.returns-in-err-object
-returns-in-err-object c =
-    let p = err_from_is_err_and c.from-residual.result c.from-residual.ensures.1 in
+pub returns-in_err-object : goal.returns-in_err-object
+returns-in_err-object c =
+    let p = err_from_is_err_and c.from_residual.result c.from_residual.ensures.1 in
     rw (p.1, p.2)
-    (stop_so_far c.args.header c.args.text.now c.loop-i.-i c.loop-i.number c.loop-i.end c.loop-i.references c.loop-i.rest.now _
-    c.loop-i.invariant c.loop-i-test.true c.in-err-object.ensures.value)
+    (stop_so_far c.args.header c.args.text.now c.loop-i._i c.loop-i.number c.loop-i.end c.loop-i.references c.loop-i.rest.now _
+    c.loop-i.invariant c.loop-i-test.true c.in_err-object.ensures.value)
 
 pub returns : goal.returns
-returns c = all_so_far c.args.header c.args.text.now c.loop-i.-i c.loop-i.number c.loop-i.end c.loop-i.references c.loop-i.rest.now c.loop-i.invariant (omega arith)
+returns c = all_so_far c.args.header c.args.text.now c.loop-i._i c.loop-i.number c.loop-i.end c.loop-i.references c.loop-i.rest.now c.loop-i.invariant (omega arith)

@@ -19,19 +19,31 @@ pub loop-i-preserved : goal.loop-i-preserved
 loop-i-preserved c =
     let old = c.args.heap.now in
     let ns = numbers c.args.list.text.now in
-    let n = number_at c.args.list.text.now c.args.list.count c.loop-i.i c.loop-i.rest.now c.first-number-n.result.0 c.requires.listed c.loop-i-test.true
-    c.loop-i.invariant.2 c.first-number-n.ensures.number in
+    let n = number_at c.args.list.text.now c.args.list.count c.loop-i.i c.loop-i.rest.now c.first_number-n.result.0 c.requires.listed c.loop-i-test.true
+    c.loop-i.invariant.2 c.first_number-n.ensures.number in
     let p = paste_more old.reference_table.now c.args.first ns c.loop-i.i 0 (omega arith) (omega (arith, c.requires.listed.counted)) in (
-      ap (λ t. with_references (set t.reference_table (c.args.first + c.loop-i.i) c.first-number-n.result.0) t) c.loop-i.invariant.0
+      ap (λ t. with_references (set t.reference_table (c.args.first + c.loop-i.i) c.first_number-n.result.0) t) c.loop-i.invariant.0
           ∙ ap (λ m. with_references (set (paste old.reference_table.now c.args.first ns c.loop-i.i) (c.args.first + c.loop-i.i) m) (tables_of old)) n
           ∙ ap (λ xs. with_references xs (tables_of old)) p,
       c.loop-i.invariant.1,
-      c.first-number-n.ensures.rest ∙ ap (λ t. unwrap_or (past 44 t) []) c.loop-i.invariant.2 ∙ sym (after_more c.loop-i.i c.args.list.text.now),
+      c.first_number-n.ensures.rest ∙ ap (λ t. unwrap_or (past 44 t) []) c.loop-i.invariant.2 ∙ sym (after_more c.loop-i.i c.args.list.text.now),
     )
 
-pub invariant-of-heap : goal.invariant-of-heap
-invariant-of-heap c =
+pub invariant_of-heap : goal.invariant_of-heap
+invariant_of-heap c =
     let h = c.loop-i.heap in
     let none : h.references ≡ 0 = ap (λ t. t.references) c.loop-i.invariant.0 ∙ c.requires.empty in
-    let len = length-set h.reference_table.now (c.args.first + c.loop-i.i) c.first-number-n.result.0 in
-    (h.long, (h.wide, (h.cut, (h.few, ((h.held.0, omega (arith, len, h.held.1), h.held.2), (h.inside, (h.apart, (h.follow, (h.counted, ((λ k l. absurd (omega arith)), (h.rooted, tt)))))))))))
+    let len = length-set h.reference_table.now (c.args.first + c.loop-i.i) c.first_number-n.result.0 in
+    record {
+      long = h.long;
+      wide = h.wide;
+      cut = h.cut;
+      few = h.few;
+      held = (h.held.0, omega (arith, len, h.held.1), h.held.2);
+      inside = h.inside;
+      apart = h.apart;
+      follow = h.follow;
+      counted = h.counted;
+      known = λ k l. absurd (omega arith);
+      rooted = h.rooted;
+    }

@@ -19,20 +19,32 @@ pub loop-i-preserved : goal.loop-i-preserved
 loop-i-preserved c =
     let old = c.args.heap.now in
     let ns = numbers c.args.list.text.now in
-    let n = number_at c.args.list.text.now c.args.list.count c.loop-i.i c.loop-i.rest.now c.first-number-n.result.0 c.requires.listed c.loop-i-test.true
-    c.loop-i.invariant.2 c.first-number-n.ensures.number in
+    let n = number_at c.args.list.text.now c.args.list.count c.loop-i.i c.loop-i.rest.now c.first_number-n.result.0 c.requires.listed c.loop-i-test.true
+    c.loop-i.invariant.2 c.first_number-n.ensures.number in
     let p = paste_more old.root_table.now 0 ns c.loop-i.i 0 (omega arith) (omega (arith, c.requires.listed.counted)) in (
-      ap (λ j. with_roots (set c.loop-i.heap.root_table.now j c.first-number-n.result.0) (tables_of c.loop-i.heap)) (sym (zero-add c.loop-i.i))
-          ∙ ap (λ t. with_roots (set t.root_table (0 + c.loop-i.i) c.first-number-n.result.0) t) c.loop-i.invariant.0
+      ap (λ j. with_roots (set c.loop-i.heap.root_table.now j c.first_number-n.result.0) (tables_of c.loop-i.heap)) (sym (zero-add c.loop-i.i))
+          ∙ ap (λ t. with_roots (set t.root_table (0 + c.loop-i.i) c.first_number-n.result.0) t) c.loop-i.invariant.0
           ∙ ap (λ m. with_roots (set (paste old.root_table.now 0 ns c.loop-i.i) (0 + c.loop-i.i) m) (tables_of old)) n
           ∙ ap (λ xs. with_roots xs (tables_of old)) p,
       c.loop-i.invariant.1,
-      c.first-number-n.ensures.rest ∙ ap (λ t. unwrap_or (past 44 t) []) c.loop-i.invariant.2 ∙ sym (after_more c.loop-i.i c.args.list.text.now),
+      c.first_number-n.ensures.rest ∙ ap (λ t. unwrap_or (past 44 t) []) c.loop-i.invariant.2 ∙ sym (after_more c.loop-i.i c.args.list.text.now),
     )
 
-pub invariant-of-heap : goal.invariant-of-heap
-invariant-of-heap c =
+pub invariant_of-heap : goal.invariant_of-heap
+invariant_of-heap c =
     let h = c.loop-i.heap in
     let none : h.roots ≡ 0 = ap (λ t. t.roots) c.loop-i.invariant.0 ∙ c.requires.empty in
-    let len = length-set h.root_table.now c.loop-i.i c.first-number-n.result.0 in
-    (h.long, (h.wide, (h.cut, (h.few, ((h.held.0, h.held.1, omega (arith, len, h.held.2)), (h.inside, (h.apart, (h.follow, (h.counted, (h.known, ((λ k l. absurd (omega arith)), tt)))))))))))
+    let len = length-set h.root_table.now c.loop-i.i c.first_number-n.result.0 in
+    record {
+      long = h.long;
+      wide = h.wide;
+      cut = h.cut;
+      few = h.few;
+      held = (h.held.0, h.held.1, omega (arith, len, h.held.2));
+      inside = h.inside;
+      apart = h.apart;
+      follow = h.follow;
+      counted = h.counted;
+      known = h.known;
+      rooted = λ k l. absurd (omega arith);
+    }

@@ -13,11 +13,11 @@ loop-n-smaller c = search (rules, past_shorter)
 pub loop-n-preserved : goal.loop-n-preserved
 loop-n-preserved c = search (rules, survey_more, past_shorter)
 
-pub returns-in-err-n : goal.returns-in-err-n
-returns-in-err-n c =
-    let p = err_from_is_err_and c.from-residual.result c.from-residual.ensures.1 in
+pub returns-in_err-n : goal.returns-in_err-n
+returns-in_err-n c =
+    let p = err_from_is_err_and c.from_residual.result c.from_residual.ensures.1 in
     rw (p.1, p.2)
-    (survey_not c.loop-n.seen c.loop-n.rest.now c.cut.result.0.now c.in-err-n.field-0.0 c.cut.ensures.front c.in-err-n.ensures
+    (survey_not c.loop-n.seen c.loop-n.rest.now c.cut.result.0.now c.in_err-n.field-0.0 c.cut.ensures.front c.in_err-n.ensures
     ∙ c.loop-n.invariant.0)
 
 pub returns-in-None : goal.returns-in-None

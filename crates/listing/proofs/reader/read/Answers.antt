@@ -11,46 +11,46 @@ use Rattle.listing.proofs.Ready.{body_fits, numbers_kept, totals_filled, short_a
 use Rattle.listing.proofs.Promised.{accepted_fits, fitting_accepted, refused_for, refused_so}
 use Rattle.listing.proofs.reader.read.Goals as goal
 
-pub fill-tables-requires : goal.fill-tables-requires
-fill-tables-requires c =
-    let a = c.in-ok-totals.ensures in
+pub fill_tables-requires : goal.fill_tables-requires
+fill_tables-requires c =
+    let a = c.in_ok-totals.ensures in
     let e = c.clear.ensures.tables in
     record {
-      fits = body_fits c.args.text.now c.in-ok-totals.body.now c.in-ok-totals.totals (tables_of c.args.heap.now) (tables_of c.clear.new.heap) a
-          c.if-not-has-room.ensures e;
+      fits = body_fits c.args.text.now c.in_ok-totals.body.now c.in_ok-totals.totals (tables_of c.args.heap.now) (tables_of c.clear.new.heap) a
+          c.if-not-has_room.ensures e;
       empty = (ap (λ t. t.objects) e, ap (λ t. t.references) e, ap (λ t. t.roots) e);
     }
 
-pub set-numbers-requires : goal.set-numbers-requires
-set-numbers-requires c =
-    let a = c.in-ok-totals.ensures in
-    numbers_kept c.args.text.now c.in-ok-totals.body.now c.in-ok-totals.totals (tables_of c.args.heap.now) (tables_of c.clear.new.heap)
-    (tables_of c.fill-tables.new.heap) a c.clear.ensures.tables (c.in-ok-fill-tables.ensures.filled a.heap a.behind)
+pub set_numbers-requires : goal.set_numbers-requires
+set_numbers-requires c =
+    let a = c.in_ok-totals.ensures in
+    numbers_kept c.args.text.now c.in_ok-totals.body.now c.in_ok-totals.totals (tables_of c.args.heap.now) (tables_of c.clear.new.heap)
+    (tables_of c.fill_tables.new.heap) a c.clear.ensures.tables (c.in_ok-fill_tables.ensures.filled a.heap a.behind)
 
-pub returns-in-err-totals : goal.returns-in-err-totals
-returns-in-err-totals c =
+pub returns-in_err-totals : goal.returns-in_err-totals
+returns-in_err-totals c =
     let text = c.args.text.now in
     let t = tables_of c.args.heap.now in
-    let p = err_from_is_err_and c.from-residual.result c.from-residual.ensures.1 in
-    let e = c.in-err-totals.ensures in
-    let answer : c.from-residual.result ≡ answered (judge text) t = p.1 ∙ ap Err p.2 ∙ sym (ap (λ v. answered v t) e) in
+    let p = err_from_is_err_and c.from_residual.result c.from_residual.ensures.1 in
+    let e = c.in_err-totals.ensures in
+    let answer : c.from_residual.result ≡ answered (judge text) t = p.1 ∙ ap Err p.2 ∙ sym (ap (λ v. answered v t) e) in
     let tables : t ≡ left_in (judge text) t = sym (ap (λ v. left_in v t) e) in
     record {
       answer = answer;
       tables = tables;
       lenders = (refl, refl, refl);
-      accepted = λ s q. accepted_fits text t t c.from-residual.result s answer tables q;
-      accepts = λ h s q. fitting_accepted text t t c.from-residual.result h s answer tables q;
-      refused = λ f q. refused_for text t c.from-residual.result f answer q;
-      refuses = λ f q. refused_so text t c.from-residual.result f answer q;
+      accepted = λ s q. accepted_fits text t t c.from_residual.result s answer tables q;
+      accepts = λ h s q. fitting_accepted text t t c.from_residual.result h s answer tables q;
+      refused = λ f q. refused_for text t c.from_residual.result f answer q;
+      refuses = λ f q. refused_so text t c.from_residual.result f answer q;
     }
 
-pub returns-then-not-has-room : goal.returns-then-not-has-room
-returns-then-not-has-room c =
+pub returns-then-not-has_room : goal.returns-then-not-has_room
+returns-then-not-has_room c =
     let text = c.args.text.now in
     let t = tables_of c.args.heap.now in
-    let a = c.in-ok-totals.ensures in
-    let s = short_answer text c.in-ok-totals.body.now c.in-ok-totals.totals t a c.if-not-has-room.ensures in
+    let a = c.in_ok-totals.ensures in
+    let s = short_answer text c.in_ok-totals.body.now c.in_ok-totals.totals t a c.if-not-has_room.ensures in
     record {
       answer = s.0;
       tables = s.1;
@@ -65,16 +65,16 @@ pub returns : goal.returns
 returns c =
     let text = c.args.text.now in
     let t = tables_of c.args.heap.now in
-    let t' = tables_of c.set-numbers.new.heap in
-    let n = c.in-ok-totals.totals in
-    let a = c.in-ok-totals.ensures in
+    let t' = tables_of c.set_numbers.new.heap in
+    let n = c.in_ok-totals.totals in
+    let a = c.in_ok-totals.ensures in
     let r : Result Settings Fault = Ok (record { markers = n.header.markers; share = n.header.share }) in
-    let f = totals_filled text c.in-ok-totals.body.now n t (tables_of c.clear.new.heap) (tables_of c.fill-tables.new.heap) a c.clear.ensures.tables
-    (c.in-ok-fill-tables.ensures.filled a.heap a.behind) in
-    let s = full_answer text c.in-ok-totals.body.now n t t' a c.if-not-has-room.ensures (c.set-numbers.ensures.tables ∙ f) in
+    let f = totals_filled text c.in_ok-totals.body.now n t (tables_of c.clear.new.heap) (tables_of c.fill_tables.new.heap) a c.clear.ensures.tables
+    (c.in_ok-fill_tables.ensures.filled a.heap a.behind) in
+    let s = full_answer text c.in_ok-totals.body.now n t t' a c.if-not-has_room.ensures (c.set_numbers.ensures.tables ∙ f) in
     let x = c.clear.ensures.lenders in
-    let y = c.in-ok-fill-tables.ensures.lenders in
-    let z = c.set-numbers.ensures.lenders in
+    let y = c.in_ok-fill_tables.ensures.lenders in
+    let z = c.set_numbers.ensures.lenders in
     record {
       answer = s.0;
       tables = s.1;

@@ -7,9 +7,9 @@ pub returns : goal.returns
 returns c =
     let h = c.args.heap.now in
     let n = counts h in
-    sheet_lines h c.args.settings (string_bytes c.in-ok-text.text) (string_bytes c.add-number.new.text) (string_bytes c.add-number-2.new.text)
-    (string_bytes c.add-settings.new.text) (string_bytes c.add-number-3.new.text) (string_bytes c.add-number-4.new.text) (string_bytes c.add-number-5.new.text)
-    (string_bytes c.add-number-6.new.text) c.sections.result c.covered.result
-    c.in-ok-text.ensures c.in-ok-add-number.ensures c.in-ok-add-number-2.ensures c.in-ok-add-settings.ensures
-    c.in-ok-add-number-3.ensures c.in-ok-add-number-4.ensures c.in-ok-add-number-5.ensures c.in-ok-add-number-6.ensures
+    sheet_lines h c.args.settings (string_bytes c.in_ok-text.text) (string_bytes c.add_number.new.text) (string_bytes c.add_number-2.new.text)
+    (string_bytes c.add_settings.new.text) (string_bytes c.add_number-3.new.text) (string_bytes c.add_number-4.new.text) (string_bytes c.add_number-5.new.text)
+    (string_bytes c.add_number-6.new.text) c.sections.result c.covered.result
+    c.in_ok-text.ensures c.in_ok-add_number.ensures c.in_ok-add_number-2.ensures c.in_ok-add_settings.ensures
+    c.in_ok-add_number-3.ensures c.in_ok-add_number-4.ensures c.in_ok-add_number-5.ensures c.in_ok-add_number-6.ensures
     c.sections.ensures.value c.covered.ensures.value

@@ -8,9 +8,9 @@ returns c =
     let a = c.args in
     let m = a.stretch.now in
     let n = length_part a.from a.to m c.requires.0 c.requires.1 in
-    let kept : length c.push-in.new.part ≡ length (part a.from a.to m) = search rules in
-    let written = part_written a.from a.to m c.requires.0 c.requires.1 c.push-in.new.part (kept ∙ n) in (
-      rw written (rw n at c.push-in.ensures),
-      before_written a.from a.to m c.requires.0 c.requires.1 c.push-in.new.part (kept ∙ n),
-      behind_written a.from a.to m c.requires.0 c.requires.1 c.push-in.new.part (kept ∙ n),
+    let kept : length c.push_in.new.part ≡ length (part a.from a.to m) = search rules in
+    let written = part_written a.from a.to m c.requires.0 c.requires.1 c.push_in.new.part (kept ∙ n) in (
+      rw written (rw n at c.push_in.ensures),
+      before_written a.from a.to m c.requires.0 c.requires.1 c.push_in.new.part (kept ∙ n),
+      behind_written a.from a.to m c.requires.0 c.requires.1 c.push_in.new.part (kept ∙ n),
     )

@@ -10,8 +10,8 @@ bounds-self-at c =
     let s = c.args.self.now in
     omega (arith, s.room (two_serve s.served c.args.q c.requires.pair.0), c.requires.room)
 
-pub invariant-of-self : goal.invariant-of-self
-invariant-of-self c =
+pub invariant_of-self : goal.invariant_of-self
+invariant_of-self c =
     let s = c.args.self.now in
     let q = c.args.q in
     let here : s.held < length s.pairs = omega (arith, c.requires.room) in (

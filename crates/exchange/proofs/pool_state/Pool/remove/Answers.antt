@@ -18,14 +18,14 @@ bounds-self-at c =
     let a : c.loop-at.at < l.held = omega (arith, c.loop-at.invariant.2) in
     omega (arith, words_lent l c.loop-at.at a, l.bounded, c.loop-at.invariant.2)
 
-pub bounds-self-at-in-loop-at : goal.bounds-self-at-in-loop-at
-bounds-self-at-in-loop-at c =
+pub bounds-self-at_in-loop-at : goal.bounds-self-at_in-loop-at
+bounds-self-at_in-loop-at c =
     let l = c.loop-at.self in
     let a : c.loop-at.at < l.held = omega (arith, c.loop-at.invariant.2) in
     omega (arith, words_lent l c.loop-at.at a, l.bounded)
 
-pub invariant-of-self : goal.invariant-of-self
-invariant-of-self c =
+pub invariant_of-self : goal.invariant_of-self
+invariant_of-self c =
     let l = c.loop-at.self in
     let at = c.loop-at.at in
     let next : at + 1 < l.held = omega (arith, c.loop-at.invariant.2) in

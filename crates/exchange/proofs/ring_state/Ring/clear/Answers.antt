@@ -4,8 +4,8 @@ use Rattle.std.proofs.lemmas.List.Edits.{fill_more}
 use Rattle.exchange.specs.Pairs.{pairs_of}
 use Rattle.exchange.proofs.ring_state.Ring.clear.Goals as goal
 
-pub invariant-of-self-in-loop-k : goal.invariant-of-self-in-loop-k
-invariant-of-self-in-loop-k c =
+pub invariant_of-self-in-loop-k : goal.invariant_of-self-in-loop-k
+invariant_of-self-in-loop-k c =
     let s = c.loop-k.self in
     let no : (q : ℕ) → q < pairs_of s.served → ⊥ = λ q l. let k : q < 0 = rw c.loop-k.invariant.0 at l in omega arith in
     (s.someone, (s.sixteen, (s.holds, (s.bounded, (simp length-set s.room, (s.heads_within, (λ q l. absurd (no q l), (λ q l. absurd (no q l), tt))))))))

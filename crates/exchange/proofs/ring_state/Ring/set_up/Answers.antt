@@ -5,8 +5,8 @@ use Rattle.exchange.proofs.Pairings.{number_lt, pairs_few}
 use Rattle.exchange.proofs.RingFresh.{none_wait, fresh_sound}
 use Rattle.exchange.proofs.ring_state.Ring.set_up.Goals as goal
 
-pub invariant-of-self : goal.invariant-of-self
-invariant-of-self c =
+pub invariant_of-self : goal.invariant_of-self
+invariant_of-self c =
     let m = c.args.m in
     let fresh = fresh_sound m c.args.length c.args.self.now.words.now (omega arith) (pairs_few m (omega arith)) in
     let s = rw (← c.clear.ensures.words) at fresh in
