@@ -14,23 +14,15 @@ pub invariant_of-self : goal.invariant_of-self
 invariant_of-self c =
     let s = c.args.self.now in
     let q = c.args.q in
-    let here : s.held < length s.pairs = omega (arith, c.requires.room) in (
-      s.someone,
-      (
-        s.sixteen,
-        (
-          omega arith,
-          (
-            λ two. simp length-set (s.room two),
-            (
-              λ k l.
-                  ⊎_elim
-                  (λ (e : k ≡ s.held). rw (e, get_or-set_same s.pairs s.held q 0 here) c.requires.pair.0)
-                  (λ (ne : k ≡ s.held → ⊥). rw (get_or-set_other s.pairs s.held k q 0 ne) (s.known k (omega (arith, ne))))
-                  (cases_eq k s.held),
-              tt,
-            ),
-          ),
-        ),
-      ),
-    )
+    let here : s.held < length s.pairs = omega (arith, c.requires.room) in
+    record {
+      someone = s.someone;
+      sixteen = s.sixteen;
+      bounded = omega arith;
+      room = λ two. simp length-set (s.room two);
+      known = λ k l.
+          ⊎_elim
+          (λ (e : k ≡ s.held). rw (e, get_or-set_same s.pairs s.held q 0 here) c.requires.pair.0)
+          (λ (ne : k ≡ s.held → ⊥). rw (get_or-set_other s.pairs s.held k q 0 ne) (s.known k (omega (arith, ne))))
+          (cases_eq k s.held);
+    }

@@ -18,8 +18,8 @@ bounds-self-at c =
     let a : c.loop-at.at < l.held = omega (arith, c.loop-at.invariant.2) in
     omega (arith, words_lent l c.loop-at.at a, l.bounded, c.loop-at.invariant.2)
 
-pub bounds-self-at_in-loop-at : goal.bounds-self-at_in-loop-at
-bounds-self-at_in-loop-at c =
+pub bounds-self-at-in-loop-at : goal.bounds-self-at-in-loop-at
+bounds-self-at-in-loop-at c =
     let l = c.loop-at.self in
     let a : c.loop-at.at < l.held = omega (arith, c.loop-at.invariant.2) in
     omega (arith, words_lent l c.loop-at.at a, l.bounded)
@@ -31,26 +31,18 @@ invariant_of-self c =
     let next : at + 1 < l.held = omega (arith, c.loop-at.invariant.2) in
     let long = ap length c.loop-at.invariant.4 ∙ length_moved c.args.self.now.pairs c.args.k at (omega arith) (omega (arith, l.bounded, c.loop-at.invariant.2)) in
     let p : at < length l.pairs = omega (arith, l.bounded, long) in
-    let x = get_or l.pairs (at + 1) 0 in (
-      l.someone,
-      (
-        l.sixteen,
-        (
-          l.bounded,
-          (
-            λ two. simp length-set (l.room two),
-            (
-              λ k h.
-                  ⊎_elim
-                  (λ (e : k ≡ at). rw (e, get_or-set_same l.pairs at x 0 p) (l.known (at + 1) next))
-                  (λ (ne : k ≡ at → ⊥). rw (get_or-set_other l.pairs at k x 0 ne) (l.known k h))
-                  (cases_eq k at),
-              tt,
-            ),
-          ),
-        ),
-      ),
-    )
+    let x = get_or l.pairs (at + 1) 0 in
+    record {
+      someone = l.someone;
+      sixteen = l.sixteen;
+      bounded = l.bounded;
+      room = λ two. simp length-set (l.room two);
+      known = λ k h.
+          ⊎_elim
+          (λ (e : k ≡ at). rw (e, get_or-set_same l.pairs at x 0 p) (l.known (at + 1) next))
+          (λ (ne : k ≡ at → ⊥). rw (get_or-set_other l.pairs at k x 0 ne) (l.known k h))
+          (cases_eq k at);
+    }
 
 pub loop-at-preserved : goal.loop-at-preserved
 loop-at-preserved c =

@@ -8,7 +8,16 @@ pub invariant_of-self-in-loop-k : goal.invariant_of-self-in-loop-k
 invariant_of-self-in-loop-k c =
     let s = c.loop-k.self in
     let no : (q : ℕ) → q < pairs_of s.served → ⊥ = λ q l. let k : q < 0 = rw c.loop-k.invariant.0 at l in omega arith in
-    (s.someone, (s.sixteen, (s.holds, (s.bounded, (simp length-set s.room, (s.heads_within, (λ q l. absurd (no q l), (λ q l. absurd (no q l), tt))))))))
+    record {
+      someone = s.someone;
+      sixteen = s.sixteen;
+      holds = s.holds;
+      bounded = s.bounded;
+      room = simp length-set s.room;
+      heads_within = s.heads_within;
+      tails_after = λ q l. absurd (no q l);
+      together = λ q l. absurd (no q l);
+    }
 
 pub loop-k-preserved : goal.loop-k-preserved
 loop-k-preserved c =

@@ -15,4 +15,13 @@ invariant_of-self c =
     let vacant : get_or r.words.now (tail_entry (ring_of r) c.args.q) 0 ≡ 0 = rw (← e) c.requires.entry.2 in
     let n = put_sound (ring_of r) (sound r) c.args.q c.requires.pair.0 c.args.task c.requires.some vacant small in
     let k = rw (← e, ← c.following_entry.ensures) at n in
-    (r.someone, (r.sixteen, (r.holds, (r.bounded, (k.room, (k.within, (k.after, (k.stand, tt))))))))
+    record {
+      someone = r.someone;
+      sixteen = r.sixteen;
+      holds = r.holds;
+      bounded = r.bounded;
+      room = k.room;
+      heads_within = k.within;
+      tails_after = k.after;
+      together = k.stand;
+    }

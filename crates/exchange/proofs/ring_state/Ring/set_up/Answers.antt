@@ -10,7 +10,16 @@ invariant_of-self c =
     let m = c.args.m in
     let fresh = fresh_sound m c.args.length c.args.self.now.words.now (omega arith) (pairs_few m (omega arith)) in
     let s = rw (← c.clear.ensures.words) at fresh in
-    (omega arith, (omega arith, (omega arith, (omega arith, (s.room, (s.within, (s.after, (s.stand, tt))))))))
+    record {
+      someone = omega arith;
+      sixteen = omega arith;
+      holds = omega arith;
+      bounded = omega arith;
+      room = s.room;
+      heads_within = s.within;
+      tails_after = s.after;
+      together = s.stand;
+    }
 
 pub returns : goal.returns
 returns c =
