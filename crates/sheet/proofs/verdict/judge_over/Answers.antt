@@ -7,11 +7,11 @@ use Rattle.sheet.specs.Judged.{printed}
 use Rattle.sheet.proofs.Rooms.{ok_judged, err_judged, long_enough}
 use Rattle.sheet.proofs.verdict.judge_over.Goals as goal
 
-pub returns-in_ok-text : goal.returns-in_ok-text
-returns-in_ok-text c =
+pub returns-in_ok-text-in-Ok : goal.returns-in_ok-text-in-Ok
+returns-in_ok-text-in-Ok c =
     let h = heap_of c.read.new.heap in
     let j = ok_judged c.args.text.now h c.in-Ok.settings (tables_of c.empty-heap.result) (c.in-Ok.ensures.accepted c.in-Ok.settings refl) in
-    (c.in_ok-text.ensures ∙ sym (ap printed j), sym (ap is_ok j))
+    (c.in_ok-text-in-Ok.ensures ∙ sym (ap printed j), sym (ap is_ok j))
 
 pub returns-in-Err : goal.returns-in-Err
 returns-in-Err c =
