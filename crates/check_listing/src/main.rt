@@ -6,6 +6,7 @@ use sheet::{help_text, judge_listing, longest_listing};
 use std::env;
 use std::fs::File;
 use std::io::Read;
+use std::process::ExitCode;
 
 // The text that is read, and no more of it than tells that it is too long.
 fn read_text(rt: &HostRuntime, path: Option<String>) -> anyhow::Result<Vec<u8>> {
@@ -46,13 +47,13 @@ fn run(rt: &HostRuntime) -> anyhow::Result<bool> {
     Ok(verdict.accepted)
 }
 
-fn main(rt: HostRuntime) -> anyhow::Result<()> {
+fn main(rt: HostRuntime) -> anyhow::Result<ExitCode> {
     match run(&rt) {
-        Ok(true) => Ok(()),
-        Ok(false) => Err(anyhow!("refused")),
+        Ok(true) => Ok(ExitCode::SUCCESS),
+        Ok(false) => Ok(ExitCode::FAILURE),
         Err(trouble) => {
             eprintln!(rt; "check_listing: {trouble}")?;
-            Err(trouble)
+            Ok(ExitCode::FAILURE)
         }
     }
 }

@@ -1,6 +1,6 @@
 -- What is known of each place of the tables that hold a lawful heap.
 use Rattle.std.proofs.Common.{◌≡◌, ℕ, zero, suc, ◌+◌, ◌-◌, ◌<◌, ◌≤◌, List, [], ◌∷◌, ◌++◌, length, take, drop, sum_by, sym, refl, ap, ◌∙◌, add-zero, zero-add, add-one, arith}
-use Rattle.std.specs.List.{AllByRecursion as All}
+use Rattle.std.specs.List.{AllByRecursion}
 use Rattle.std.proofs.lemmas.List.{length-append, get_or_append_left, take-append-le, take_all, take_at, drop_at, append_assoc}
 use Rattle.std.proofs.lemmas.List.Sums.{sum_by-cons}
 use Rattle.std.proofs.ByRecursion.{All-append, All-get_or}
@@ -49,7 +49,7 @@ counted_entries first (o ∷ os) =
     let b = sum_by-cons {X = Object} (λ o. length o.refs) o os in
     omega (arith, a, b, counted_entries next os)
 
-known_references : (cells most from : ℕ) (os : List Object) → Laid cells most from os → All (λ r. r ≤ most) (references_of os)
+known_references : (cells most from : ℕ) (os : List Object) → Laid cells most from os → AllByRecursion (λ r. r ≤ most) (references_of os)
 known_references cells most from [] laid = tt
 known_references cells most from (o ∷ os) laid =
     All-append (λ r. r ≤ most) o.refs (references_of os) laid.3 (known_references cells most (o.at + o.len) os laid.4)

@@ -1,6 +1,6 @@
 -- The law of a heap, from what is known of each place of its tables.
 use Rattle.std.proofs.Common.{◌≡◌, ℕ, suc, ◌+◌, ◌-◌, ◌<◌, ◌≤◌, List, [], ◌∷◌, length, get_or, take, drop, sum_by, sym, refl, ◌∙◌, subst, add-one, arith}
-use Rattle.std.specs.List.{AllByRecursion as All}
+use Rattle.std.specs.List.{AllByRecursion}
 use Rattle.std.proofs.lemmas.List.{length-take, length-drop, length-map, length-take-le, get_or-take, get_or-drop, take-take}
 use Rattle.std.proofs.lemmas.List.Sums.{sum_by-cons, sum_by_more, sum_by-take-le}
 use Rattle.std.proofs.ByRecursion.{All-from_get_or}
@@ -12,7 +12,7 @@ use Rattle.heap.specs.Handed.{heap_of}
 
 -- part of a list of which each place is known
 part_known : (refs : List ℕ) (first count n most : ℕ) → ((k : ℕ) → k < n → get_or refs k 0 ≤ most) → first + count ≤ n → n ≤ length refs
-    → All (λ r. r ≤ most) (take count (drop first refs))
+    → AllByRecursion (λ r. r ≤ most) (take count (drop first refs))
 part_known refs first count n most f p q =
     All-from_get_or (λ r. r ≤ most) (take count (drop first refs)) 0
     (λ i l.
@@ -25,7 +25,7 @@ pub laid-by-place
     : (cells most from : ℕ) (refs : List ℕ) (es : List ObjectEntry)
     → ((k : ℕ) → k < length es → (1 ≤ (entry_at es k).len) × ((entry_at es k).at + (entry_at es k).len ≤ cells))
     → ((k : ℕ) → suc k < length es → (entry_at es k).at + (entry_at es k).len ≤ (entry_at es (suc k)).at)
-    → ((k : ℕ) → k < length es → All (λ r. r ≤ most) (object_in refs (entry_at es k)).refs)
+    → ((k : ℕ) → k < length es → AllByRecursion (λ r. r ≤ most) (object_in refs (entry_at es k)).refs)
     → (0 < length es → from ≤ (entry_at es 0).at)
     → Laid cells most from (objects_in refs es)
 laid-by-place cells most from refs [] inside apart known begins = tt

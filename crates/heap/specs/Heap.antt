@@ -1,6 +1,6 @@
 -- A heap, its law, and which of its objects and cells are reached. Assumes nothing.
 use Rattle.std.specs.Prelude.{◌≡◌, ℕ, ◌+◌, ◌-◌, ◌/◌, ◌<◌, ◌≤◌, List, [], ◌∷◌, length, sum_by, slice_index, slice_index_or}
-use Rattle.std.specs.List.{AllByRecursion as All}
+use Rattle.std.specs.List.{AllByRecursion}
 
 -- An object covers len cells from the cell at. 0 among its references stands for no object.
 pub record Object : Type 0 where
@@ -37,7 +37,7 @@ end_from from (o ∷ os) = end_from (o.at + o.len) os
 abbrev pub Laid : ℕ → ℕ → ℕ → List Object → Type 0
 Laid cells most from [] = Unit {0}
 Laid cells most from (o ∷ os) =
-    (from ≤ o.at) × (1 ≤ o.len) × (o.at + o.len ≤ cells) × All (λ r. r ≤ most) o.refs × Laid cells most (o.at + o.len) os
+    (from ≤ o.at) × (1 ≤ o.len) × (o.at + o.len ≤ cells) × AllByRecursion (λ r. r ≤ most) o.refs × Laid cells most (o.at + o.len) os
 
 pub record Lawful (h : Heap) : Type 0 where
   pub cells : (1 ≤ h.cells) × (h.cells ≤ 65535)
@@ -47,7 +47,7 @@ pub record Lawful (h : Heap) : Type 0 where
   pub laid : Laid h.cells (length h.objects) 0 h.objects
   pub references : references_in h.objects ≤ 262144
   pub roots : length h.roots ≤ 4096
-  pub rooted : All (λ r. r ≤ length h.objects) h.roots
+  pub rooted : AllByRecursion (λ r. r ≤ length h.objects) h.roots
 
 abbrev pub no_object : Object
 no_object = record { at = 0; len = 0; refs = [] }

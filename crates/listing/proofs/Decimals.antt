@@ -1,7 +1,7 @@
 -- Numbers and lists of numbers as a listing writes them, read back; and these and sharing rules, once read, written again.
 use Rattle.std.proofs.Common.{◌≡◌, ℕ, ◌^◌, ◌<◌, ◌≤◌, Bool, true, false, cond, not, eqb, List, [], ◌∷◌, map, length, get_or, is_some, Some, None, decimal, unwrap_or, sym, refl, ap, ◌∙◌, subst, ap₂, ⊎_elim, arith, rules}
 use Rattle.std.specs.Char.{is_ascii_digit}
-use Rattle.std.specs.List.{AllByRecursion as All}
+use Rattle.std.specs.List.{AllByRecursion}
 use Rattle.std.specs.Str.{all_ascii_digits}
 use Rattle.std.proofs.lemmas.Fmt.{decimal-digits_value, digits_decimal, digits_value-decimal, decimal_nonempty, decimal_digit, first_decimal}
 use Rattle.std.proofs.lemmas.List.{length-append}
@@ -61,17 +61,17 @@ lacks_decimal sep n s l = lacks_digits sep (decimal n) s (digits_decimal own n l
 
 -- numbers of at most 64 bits
 abbrev pub Small : List ℕ → Type 0
-Small ns = All (λ n. n < 2 ^ 64) ns
+Small ns = AllByRecursion (λ n. n < 2 ^ 64) ns
 
-pub all_under_largest : (ns : List ℕ) (m : ℕ) → largest ns ≤ m → All (λ n. n ≤ m) ns
+pub all_under_largest : (ns : List ℕ) (m : ℕ) → largest ns ≤ m → AllByRecursion (λ n. n ≤ m) ns
 all_under_largest [] m l = tt
 all_under_largest (n ∷ ns) m l = (omega arith, all_under_largest ns m (omega arith))
 
-pub largest_under : (ns : List ℕ) (m : ℕ) → All (λ n. n ≤ m) ns → largest ns ≤ m
+pub largest_under : (ns : List ℕ) (m : ℕ) → AllByRecursion (λ n. n ≤ m) ns → largest ns ≤ m
 largest_under [] m a = omega arith
 largest_under (n ∷ ns) m a = let h = largest_under ns m a.1 in let g = a.0 in omega arith
 
-pub small_from_bound : (ns : List ℕ) (m : ℕ) → m < 2 ^ 64 → All (λ n. n ≤ m) ns → Small ns
+pub small_from_bound : (ns : List ℕ) (m : ℕ) → m < 2 ^ 64 → AllByRecursion (λ n. n ≤ m) ns → Small ns
 small_from_bound ns m l a = All-weaker (λ n. n ≤ m) (λ n. n < 2 ^ 64) (λ n h. omega arith) ns a
 
 -- the text of a list
@@ -91,7 +91,7 @@ separated_listed (b ∷ bs) = separated_pieces 44 (b ∷ bs)
 pub text_of_numbers : (t : List ℕ) → numerals t ≡ true → Small (numbers t) → list_text (numbers t) ≡ t
 text_of_numbers t e s = ap (separated 44) (decimals_of_values (listed t) e s) ∙ separated_listed t
 
-lacks_decimals : (sep : ℕ) (ns : List ℕ) → sep < 48 → Small ns → All (λ p. lacks sep p ≡ true) (map decimal ns)
+lacks_decimals : (sep : ℕ) (ns : List ℕ) → sep < 48 → Small ns → AllByRecursion (λ p. lacks sep p ≡ true) (map decimal ns)
 lacks_decimals sep ns l s = All-map (λ p. lacks sep p ≡ true) decimal ns (All-weaker (λ n. n < 2 ^ 64) (λ n. lacks sep (decimal n) ≡ true) (λ n h. lacks_decimal sep n l h) ns s)
 
 pub lacks_list : (ns : List ℕ) → Small ns → lacks 10 (list_text ns) ≡ true

@@ -1,6 +1,6 @@
 -- The written form of a lawful heap with settings in range has at most 2962630 bytes.
 use Rattle.std.proofs.Common.{◌≡◌, ℕ, zero, suc, ◌+◌, ◌-◌, ◌*◌, ◌^◌, ◌<◌, ◌≤◌, List, [], ◌∷◌, ◌++◌, length, codes, decimal, sum_by, refl, ap, add-zero, add-suc, suc-mul, arith}
-use Rattle.std.specs.List.{flat_map, AllByRecursion as All}
+use Rattle.std.specs.List.{flat_map, AllByRecursion}
 use Rattle.std.proofs.lemmas.Fmt.{length-decimal-le, length-decimal-le_succ, decimal_nonempty, decimal_digit}
 use Rattle.std.proofs.lemmas.List.{length-append}
 use Rattle.std.proofs.lemmas.List.Sums.{sum_by-cons}
@@ -31,7 +31,7 @@ length_line key v = omega (arith, length-append key (61 ∷ v))
 decimal_at_most : (k n : ℕ) → 0 < k → n < 10 ^ k → n ≤ 65535 → length (decimal n) ≤ k
 decimal_at_most k n p l small = length-decimal-le k n p l (omega arith)
 
-list_at_most : (ns : List ℕ) → All (λ n. n ≤ 65535) ns → length (list_text ns) ≤ 6 * length ns - 1
+list_at_most : (ns : List ℕ) → AllByRecursion (λ n. n ≤ 65535) ns → length (list_text ns) ≤ 6 * length ns - 1
 list_at_most [] a = omega arith
 list_at_most (n ∷ []) a = let h = decimal_at_most 5 n (omega arith) (omega (arith, a.0)) a.0 in omega arith
 list_at_most (n ∷ m ∷ ns) a =
@@ -40,7 +40,7 @@ list_at_most (n ∷ m ∷ ns) a =
     let e = length-append (decimal n) (44 ∷ list_text (m ∷ ns)) in
     omega (arith, h, t, e)
 
-all_small : (most : ℕ) (ns : List ℕ) → most ≤ 65535 → All (λ n. n ≤ most) ns → All (λ n. n ≤ 65535) ns
+all_small : (most : ℕ) (ns : List ℕ) → most ≤ 65535 → AllByRecursion (λ n. n ≤ most) ns → AllByRecursion (λ n. n ≤ 65535) ns
 all_small most ns l a = All-weaker (λ n. n ≤ most) (λ n. n ≤ 65535) (λ n h. omega arith) ns a
 
 -- how long the texts of the reference lists are in all

@@ -1,6 +1,6 @@
 -- Pieces with separators between them, cut again, and what was cut, put together again.
 use Rattle.std.proofs.Common.{◌≡◌, ℕ, ◌<◌, Bool, true, false, cond, not, ◌&&◌, eqb, List, [], ◌∷◌, ◌++◌, sym, refl, ap, ◌∙◌, append_assoc, arith}
-use Rattle.std.specs.List.{flat_map, AllByRecursion as All}
+use Rattle.std.specs.List.{flat_map, AllByRecursion}
 use Rattle.std.specs.Str.{all_ascii_digits}
 use Rattle.std.specs.Char.{is_ascii_digit}
 use Rattle.std.proofs.lemmas.Bool.{eqb-true, eq-eqb, and_parts, and_from, not-true}
@@ -42,7 +42,7 @@ lacks_append sep (x ∷ xs) ys a b =
     let p = and_parts (not (eqb x sep)) (lacks sep xs) a in
     and_from (not (eqb x sep)) (lacks sep (xs ++ ys)) p.0 (lacks_append sep xs ys p.1 b)
 
-pub lacks_separated : (sep other : ℕ) (ps : List (List ℕ)) → not (eqb other sep) ≡ true → All (λ p. lacks sep p ≡ true) ps → lacks sep (separated other ps) ≡ true
+pub lacks_separated : (sep other : ℕ) (ps : List (List ℕ)) → not (eqb other sep) ≡ true → AllByRecursion (λ p. lacks sep p ≡ true) ps → lacks sep (separated other ps) ≡ true
 lacks_separated sep other [] n a = refl
 lacks_separated sep other (p ∷ []) n a = a.0
 lacks_separated sep other (p ∷ q ∷ ps) n a =
@@ -71,7 +71,7 @@ pieces_cut sep (b ∷ bs) rest a =
     let q = not-true (eqb b sep) p.0 in
     rw q (ap (on_first b) (pieces_cut sep bs rest p.1))
 
-pub pieces_separated : (sep : ℕ) (p : List ℕ) (ps : List (List ℕ)) → All (λ q. lacks sep q ≡ true) (p ∷ ps) → pieces sep (separated sep (p ∷ ps)) ≡ p ∷ ps
+pub pieces_separated : (sep : ℕ) (p : List ℕ) (ps : List (List ℕ)) → AllByRecursion (λ q. lacks sep q ≡ true) (p ∷ ps) → pieces sep (separated sep (p ∷ ps)) ≡ p ∷ ps
 pieces_separated sep p [] a = pieces_alone sep p a.0
 pieces_separated sep p (q ∷ ps) a = pieces_cut sep p (separated sep (q ∷ ps)) a.0 ∙ ap (λ xs. p ∷ xs) (pieces_separated sep q ps a.1)
 
@@ -81,7 +81,7 @@ pieces_separated sep p (q ∷ ps) a = pieces_cut sep p (separated sep (q ∷ ps)
 abbrev pub closed : List (List ℕ) → List ℕ
 closed ls = flat_map (λ l. l ++ 10 ∷ []) ls
 
-pub lines_closed : (ls : List (List ℕ)) → All (λ l. lacks 10 l ≡ true) ls → lines_of (closed ls) ≡ ls ++ [] ∷ []
+pub lines_closed : (ls : List (List ℕ)) → AllByRecursion (λ l. lacks 10 l ≡ true) ls → lines_of (closed ls) ≡ ls ++ [] ∷ []
 lines_closed [] a = refl
 lines_closed (l ∷ ls) a =
     ap lines_of (append_assoc l (10 ∷ []) (closed ls)) ∙ pieces_cut 10 l (closed ls) a.0 ∙ ap (λ xs. l ∷ xs) (lines_closed ls a.1)

@@ -1,6 +1,6 @@
 -- The written form of a lawful heap with settings in range is read as that heap and those settings.
 use Rattle.std.proofs.Common.{◌≡◌, ℕ, suc, ◌+◌, ◌^◌, ◌≤◌, Bool, true, cond, ◌&&◌, leb, List, [], ◌∷◌, ◌++◌, length, Some, Ok, Err, codes, decimal, sym, refl, ap, ◌∙◌, subst, append_assoc, append-nil, arith}
-use Rattle.std.specs.List.{flat_map, AllByRecursion as All}
+use Rattle.std.specs.List.{flat_map, AllByRecursion}
 use Rattle.std.proofs.ByRecursion.{All-append}
 use Rattle.std.proofs.lemmas.List.Sums.{sum_by_push, sum_by-cons}
 use Rattle.std.proofs.lemmas.Bool.{le-leb, and_from}
@@ -30,7 +30,7 @@ record Line (k : Before) (l : List ℕ) (k' : Before) : Type 0 where
 
 record Reads (k : Before) (ls : List (List ℕ)) (k' : Before) : Type 0 where
   right : AllRight k ls k'
-  plain : All (λ l. lacks 10 l ≡ true) ls
+  plain : AllByRecursion (λ l. lacks 10 l ≡ true) ls
 
 reads_none : (k : Before) → Reads k [] k
 reads_none k = record { right = none k; plain = tt }
@@ -88,7 +88,7 @@ share_read c w n Both = line_read (Markers c w n) (Share c w n Both) (codes "sha
 
 -- the objects
 
-refs_read : (h : Header) (done : List Object) (left : ℕ) (o : Object) → h.objects ≤ 65535 → All (λ r. r ≤ h.objects) o.refs → references_in done + length o.refs ≤ 262144
+refs_read : (h : Header) (done : List Object) (left : ℕ) (o : Object) → h.objects ≤ 65535 → AllByRecursion (λ r. r ≤ h.objects) o.refs → references_in done + length o.refs ≤ 262144
     → Line (Len h done left o.at o.len) (list_line (codes "refs") o.refs) (Objects h (done ++ o ∷ []) left)
 refs_read h done left o few known room =
     let top = largest_under o.refs h.objects known in

@@ -1,6 +1,6 @@
 -- A text that is accepted is the written form of the heap and the settings that are read of it, and these are lawful.
 use Rattle.std.proofs.Common.{◌≡◌, ℕ, zero, suc, ◌+◌, ◌≤◌, Bool, true, false, cond, ◌&&◌, leb, List, [], ◌∷◌, ◌++◌, length, Some, None, Ok, Err, codes, Option, Result, sym, refl, ap, ◌∙◌, subst, append_assoc, arith}
-use Rattle.std.specs.List.{flat_map, AllByRecursion as All}
+use Rattle.std.specs.List.{flat_map, AllByRecursion}
 use Rattle.std.proofs.lemmas.List.{length_push, flat_map_more}
 use Rattle.std.proofs.lemmas.List.Sums.{sum_by_push}
 use Rattle.std.proofs.lemmas.Bool.{leb-true, and_parts}
@@ -71,7 +71,7 @@ Good (Share c w n s) = Sized c w × ((1 ≤ n) × (n ≤ 16))
 Good (Objects h done left) = Listed h done left
 Good (At h done left a) = Listed h done (suc left) × (end_from 0 done ≤ a)
 Good (Len h done left a l) = Listed h done (suc left) × (end_from 0 done ≤ a) × (1 ≤ l) × (a + l ≤ h.cells)
-Good (Roots h done rs) = Listed h done 0 × (length rs ≤ 4096) × All (λ r. r ≤ h.objects) rs
+Good (Roots h done rs) = Listed h done 0 × (length rs ≤ 4096) × AllByRecursion (λ r. r ≤ h.objects) rs
 
 within_parts : (low high v : ℕ) → within low high v ≡ true → (low ≤ v) × (v ≤ high)
 within_parts low high v e = let p = and_parts (leb low v) (leb v high) e in (leb-true low v p.0, leb-true v high p.1)
@@ -80,13 +80,13 @@ both_leb : (a b c d : ℕ) → (leb a b && leb c d) ≡ true → (a ≤ b) × (c
 both_leb a b c d e = let p = and_parts (leb a b) (leb c d) e in (leb-true a b p.0, leb-true c d p.1)
 
 laid_push : (cells most from : ℕ) (os : List Object) (o : Object) → Laid cells most from os → end_from from os ≤ o.at → 1 ≤ o.len → o.at + o.len ≤ cells
-    → All (λ r. r ≤ most) o.refs → Laid cells most from (os ++ o ∷ [])
+    → AllByRecursion (λ r. r ≤ most) o.refs → Laid cells most from (os ++ o ∷ [])
 laid_push cells most from [] o laid a b c d = (a, b, c, d, tt)
 laid_push cells most from (p ∷ os) o laid a b c d =
     (laid.0, laid.1, laid.2, laid.3, laid_push cells most (p.at + p.len) os o laid.4 a b c d)
 
 listed_push : (h : Header) (done : List Object) (left : ℕ) (o : Object) → Listed h done (suc left) → end_from 0 done ≤ o.at → 1 ≤ o.len → o.at + o.len ≤ h.cells
-    → All (λ r. r ≤ h.objects) o.refs → references_in done + length o.refs ≤ 262144 → Listed h (done ++ o ∷ []) left
+    → AllByRecursion (λ r. r ≤ h.objects) o.refs → references_in done + length o.refs ≤ 262144 → Listed h (done ++ o ∷ []) left
 listed_push h done left o g a b c d e =
     record {
       sized = g.sized;
@@ -200,7 +200,7 @@ all_said h done rs g =
         laid = subst (λ n. Laid h.cells n 0 done) o g.0.laid;
         references = g.0.references;
         roots = g.1;
-        rooted = subst (λ n. All (λ r. r ≤ n) rs) o g.2;
+        rooted = subst (λ n. AllByRecursion (λ r. r ≤ n) rs) o g.2;
       },
       g.0.marked,
       ap (λ ls. ls ++ [] ∷ [])
