@@ -1,5 +1,5 @@
 -- Tables of full size suffice for every listing, so what is read is what is judged.
-use Rattle.std.proofs.Common.{◌≡◌, ℕ, ◌<◌, ◌≤◌, true, List, length, Ok, Err, ap, ◌∙◌, inl, inr, arith}
+use Rattle.std.proofs.Common.{◌≡◌, ℕ, ◌≤◌, true, List, length, Ok, Err, ap, ◌∙◌, inl, inr, arith}
 use Rattle.std.proofs.lemmas.Bool.{and_from, le-leb, le-ltb, both_ways}
 use Rattle.refusal.specs.declared.Fault.{Fault}
 use Rattle.heap.specs.Heap.{Heap, Lawful, references_in}
