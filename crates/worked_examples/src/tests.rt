@@ -26,8 +26,9 @@ fn fills_what_it_needs_and_leaves_the_rest(rt: HostRuntime) {
         })
     );
     assert_eq!(rt; heap.objects, 2);
+    let first = heap.object_table[0];
     assert_eq!(rt;
-        heap.object_table[0],
+        first,
         ObjectEntry {
             at: 0,
             len: 2,
@@ -35,8 +36,9 @@ fn fills_what_it_needs_and_leaves_the_rest(rt: HostRuntime) {
             count: 2,
         }
     );
+    let second = heap.object_table[1];
     assert_eq!(rt;
-        heap.object_table[1],
+        second,
         ObjectEntry {
             at: 4,
             len: 3,
@@ -44,12 +46,18 @@ fn fills_what_it_needs_and_leaves_the_rest(rt: HostRuntime) {
             count: 1,
         }
     );
-    assert_eq!(rt; heap.object_table[2], BLANK);
-    assert_eq!(rt; heap.reference_table[0], 2);
-    assert_eq!(rt; heap.reference_table[2], 1);
-    assert_eq!(rt; heap.reference_table[3], 9);
-    assert_eq!(rt; heap.root_table[0], 1);
-    assert_eq!(rt; heap.root_table[1], 9);
+    let third = heap.object_table[2];
+    assert_eq!(rt; third, BLANK);
+    let reference_0 = heap.reference_table[0];
+    assert_eq!(rt; reference_0, 2);
+    let reference_2 = heap.reference_table[2];
+    assert_eq!(rt; reference_2, 1);
+    let reference_3 = heap.reference_table[3];
+    assert_eq!(rt; reference_3, 9);
+    let root_0 = heap.root_table[0];
+    assert_eq!(rt; root_0, 1);
+    let root_1 = heap.root_table[1];
+    assert_eq!(rt; root_1, 9);
     assert_eq!(rt; heap.sections(), 3);
     assert_eq!(rt; heap.covered(), 5);
 }
@@ -69,7 +77,8 @@ fn a_short_table_is_found_last(rt: HostRuntime) {
             line: 0,
         })
     );
-    assert_eq!(rt; heap.object_table[0], BLANK);
+    let first = heap.object_table[0];
+    assert_eq!(rt; first, BLANK);
     let wrong =
         b"cells=12\nwidth=5\nmarkers=2\nshare=new\nobjects=1\nat=0\nlen=2\nrefs=0,1\nroots=2\n";
     assert_eq!(rt;

@@ -1,4 +1,4 @@
-use Rattle.std.proofs.Common.{◌≡◌, ◌-◌, length, ◌∙◌, rules}
+use Rattle.std.proofs.Common.{◌≡◌, length, ◌∙◌, rules}
 use Rattle.worked_examples.specs.Stacks.{part}
 use Rattle.worked_examples.proofs.Parts.{length_part, part_written, before_written, behind_written}
 use Rattle.worked_examples.proofs.stacks.push_on.Goals as goal
