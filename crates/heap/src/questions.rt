@@ -1,4 +1,4 @@
-ghost use Rattle.std.specs.Prelude.{◌≡◌, ℕ, ◌+◌, ◌<◌, ◌≤◌};
+ghost use Rattle.std.specs.Prelude.{◌≡◌, ℕ, ◌+◌, ◌<◌, ◌≤◌, length, sum_by};
 ghost use Rattle.heap.specs.Heap.{sections_of, cells_in, Lawful};
 ghost use Rattle.heap.specs.Handed.{tables_of, heap_of};
 ghost use Rattle.heap.specs.Tables.{empty_over};
@@ -33,7 +33,7 @@ impl<'a> CheckedHeap<'a> {
         ensures bounds { (1 ≤ result) × (result ≤ 64) }
         ensures lawful { Lawful (heap_of self.now) }
     {
-        (self.cells + (self.width - 1)) / self.width
+        self.cells.div_ceil(self.width)
     }
 
     // How many cells the objects cover. No two objects share a cell, so this is the sum of their lengths.
@@ -41,11 +41,14 @@ impl<'a> CheckedHeap<'a> {
         ensures value { result ≡ cells_in (heap_of self.now).objects }
         ensures within { result ≤ self.now.cells }
     {
-        let entries = &self.object_table[0..self.objects];
-        let mut sum = 0;
-        for entry in entries {
-            sum += entry.len as usize;
-        }
-        sum
+        lengths(&self.object_table[..self.objects])
     }
+}
+
+// The sum of the objects' lengths. It cannot wrap, since no heap has more entries.
+fn lengths(entries: &[ObjectEntry]) -> usize
+    requires { length entries.now ≤ 65535 }
+    ensures { result ≡ sum_by (λ e. e.len) entries.now }
+{
+    entries.iter().map(|entry| usize::from(entry.len)).sum()
 }

@@ -63,24 +63,12 @@ pub(crate) fn len_in(value: Option<&[u8]>, at: u32, cells: u32) -> Result<u32, R
     }
 }
 
-// The sharing rule that a word names.
-fn rule_named(text: &[u8]) -> Result<SharingRule, Refusal>
-    ensures { Named text.now result }
-{
-    match text {
-        b"new" => Ok(SharingRule::New),
-        b"old" => Ok(SharingRule::Old),
-        b"both" => Ok(SharingRule::Both),
-        _ => Err(Refusal::Form),
-    }
-}
-
 // The sharing rule that is a line's value.
 pub(crate) fn rule_in(value: Option<&[u8]>) -> Result<SharingRule, Refusal>
     ensures { result ≡ ruled (option_map (λ x. x.now) value.entry) }
 {
     let text = value.ok_or(Refusal::Form)?;
-    rule_named(text)
+    SharingRule::try_from(text)
 }
 
 // How many numbers a list has: with those before at most `most`, each at most the number of objects.

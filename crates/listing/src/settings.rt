@@ -1,5 +1,9 @@
-ghost use Rattle.std.specs.Prelude.{◌≡◌};
+ghost use Rattle.std.specs.Prelude.{Some};
 ghost use Rattle.listing.specs.Rules.{word_of};
+ghost use Rattle.listing.specs.Lines.{Named};
+
+use refusal::Refusal;
+use std::fmt;
 
 // How the markers share their tasks with their peers.
 #[derive(Clone, Copy, PartialEq, Eq, Debug)]
@@ -9,15 +13,31 @@ pub enum SharingRule {
     Both,
 }
 
-impl SharingRule {
-    // The word that names the rule in a listing.
-    pub fn word(self) -> &'static str
-        ensures { result.now ≡ word_of self }
-    {
-        match self {
+// The word that names the rule in a listing.
+impl fmt::Display for SharingRule {
+    ghost output = { λ rule. Some (word_of rule) };
+
+    fn fmt<W: fmt::Write>(&self, f: &mut fmt::Formatter<W>) -> fmt::Result {
+        f.write_str(match self {
             SharingRule::New => "new",
             SharingRule::Old => "old",
             SharingRule::Both => "both",
+        })
+    }
+}
+
+// The sharing rule that a word names.
+impl TryFrom<&[u8]> for SharingRule {
+    type Error = Refusal;
+
+    ghost try_from_gives = { λ text rule. Named text.now rule };
+
+    fn try_from(text: &[u8]) -> Result<SharingRule, Refusal> {
+        match text {
+            b"new" => Ok(SharingRule::New),
+            b"old" => Ok(SharingRule::Old),
+            b"both" => Ok(SharingRule::Both),
+            _ => Err(Refusal::Form),
         }
     }
 }

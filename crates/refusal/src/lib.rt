@@ -1,59 +1,51 @@
 // Why a call is refused: a closed list, each with a number and a word.
 #![tactic(auto)]
 
-ghost use Rattle.std.specs.Prelude.{◌≡◌};
+ghost use Rattle.std.specs.Prelude.{◌≡◌, Some};
 ghost use Rattle.refusal.specs.Table.{number_of, word_of};
 
-// One variant for each row of the refusal table (docs/REFUSALS.md).
+use std::error::Error;
+use std::fmt;
+
+// One variant for each row of the refusal table (docs/REFUSALS.md), with its number there.
 #[derive(Clone, Copy, PartialEq, Eq, Debug)]
 pub enum Refusal {
-    Form,
-    Range,
-    Overlap,
-    Stranger,
-    Memory,
-    Occupied,
-    Unknown,
-    Ended,
-    Foreign,
-    Full,
-    Early,
-    Section,
+    Form = 1,
+    Range = 2,
+    Overlap = 3,
+    Stranger = 4,
+    Memory = 5,
+    Occupied = 6,
+    Unknown = 7,
+    Ended = 8,
+    Foreign = 9,
+    Full = 10,
+    Early = 11,
+    Section = 12,
 }
 
-// A refusal, and the line of the listing that it is found on; 0 stands for no line.
+// A refusal, and the line of the listing that it is found on. The rules count a missing line as line 0, so this is no Option.
 #[derive(Clone, Copy, PartialEq, Eq, Debug)]
 pub struct Fault {
     pub refusal: Refusal,
     pub line: u32,
 }
 
-impl Refusal {
-    // The number that stands for the refusal, 1 to 12.
-    pub fn number(self) -> u8
-        ensures { result ≡ number_of self }
-    {
-        match self {
-            Refusal::Form => 1,
-            Refusal::Range => 2,
-            Refusal::Overlap => 3,
-            Refusal::Stranger => 4,
-            Refusal::Memory => 5,
-            Refusal::Occupied => 6,
-            Refusal::Unknown => 7,
-            Refusal::Ended => 8,
-            Refusal::Foreign => 9,
-            Refusal::Full => 10,
-            Refusal::Early => 11,
-            Refusal::Section => 12,
-        }
-    }
+// The number that stands for the refusal, 1 to 12.
+impl From<Refusal> for u8 {
+    ghost from_gives = { λ refusal number. number ≡ number_of refusal };
 
-    // The word that stands for the refusal.
-    pub fn word(self) -> &'static str
-        ensures { result.now ≡ word_of self }
-    {
-        match self {
+    fn from(refusal: Refusal) -> u8 {
+        refusal as u8
+    }
+}
+
+// The word that stands for the refusal.
+impl fmt::Display for Refusal {
+    ghost output = { λ refusal. Some (word_of refusal) };
+
+    fn fmt<W: fmt::Write>(&self, f: &mut fmt::Formatter<W>) -> fmt::Result {
+        f.write_str(match self {
             Refusal::Form => "form",
             Refusal::Range => "range",
             Refusal::Overlap => "overlap",
@@ -66,6 +58,8 @@ impl Refusal {
             Refusal::Full => "full",
             Refusal::Early => "early",
             Refusal::Section => "section",
-        }
+        })
     }
 }
+
+impl Error for Refusal {}
