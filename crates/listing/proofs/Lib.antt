@@ -3,6 +3,7 @@ pub mod Cuts
 pub mod Surveys
 pub mod Spelled
 pub mod Words
+pub mod Values
 pub mod Stepping
 pub mod Progress
 pub mod Checked

@@ -7,7 +7,7 @@ use Rattle.heap.specs.Heap.{references_in}
 use Rattle.heap.specs.Kept.{Kept}
 use Rattle.heap.specs.Tables.{Tables, empty_over, filled}
 use Rattle.heap.proofs.Filled.{filled_kept}
-use Rattle.listing.specs.declared.check.Totals.{Totals}
+use Rattle.listing.specs.declared.settings.Totals.{Totals}
 use Rattle.listing.specs.Reading.{Accepted, totals_of}
 use Rattle.listing.specs.Filling.{BodyFits, with_heap}
 use Rattle.listing.specs.Reader.{room_for, room_in, with_totals, answered, left_in}

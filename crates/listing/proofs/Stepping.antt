@@ -9,7 +9,10 @@ use Rattle.listing.specs.declared.settings.SharingRule.{SharingRule}
 use Rattle.listing.specs.declared.settings.SharingRule.TheVariants.{New}
 use Rattle.listing.specs.Numeral.{numeral, value_of, within}
 use Rattle.listing.specs.Pieces.{lines_of, up_to, past, numbers, numerals, largest}
-use Rattle.listing.specs.Lines.{numbered, width_in, or_form, ruled, list_in, line_by, read_line, read_cells, read_width, read_markers, read_share, read_objects, read_at, read_len, read_refs, read_roots, read_header, read_object}
+use Rattle.listing.specs.declared.key.Key.{Key}
+use Rattle.listing.specs.declared.key.Key.TheVariants as keys
+use Rattle.listing.specs.Keys.{start_of}
+use Rattle.listing.specs.Lines.{numbered, width_in, at_in, len_in, or_form, ruled, list_in, line_by, read_line, read_roots, read_header, read_object}
 use Rattle.listing.specs.Rules.{Before, Start, Cells, Width, Markers, Share, Objects, At, Len, Roots, rule_named}
 use Rattle.listing.specs.Judge.{then, on_line, behind, judge_value, judge_line, judge_from, judge_text, whole, ending, saying}
 use Rattle.listing.proofs.Cuts.{pieces_step, pieces_more, pieces_last, up_to_none}
@@ -29,31 +32,40 @@ judge_more k n text line rest e =
     ap (judge_from k n) (e ∙ ap (λ xs. line ∷ xs) (pieces_step 10 rest))
     ∙ ap (λ xs. then (on_line n (judge_line k line)) (λ k'. judge_from k' (n + 1) xs)) (sym (pieces_step 10 rest))
 
-read_by : {A : Type 0} (k : Before) (n : ℕ) (g : A → Before) (r : Result A Refusal) (rest : List ℕ)
-    → then (on_line n (saying g r)) (λ k'. judge_text k' (n + 1) rest) ≡ then {A = A × List ℕ} (then (on_line n r) (λ x. Ok (x, rest))) (λ p. judge_text (g p.0) (n + 1) p.1)
-read_by k n g (Ok x) rest = refl
-read_by k n g (Err e) rest = refl
+read_by : {A : Type 0} (k : Before) (n : ℕ) (f : List ℕ → Result A Refusal) (g : A → Before) (v : Option (List ℕ)) (rest : List ℕ)
+    → then (on_line n (saying g (then (or_form v) f))) (λ k'. judge_text k' (n + 1) rest)
+    ≡ then {A = A × List ℕ} (then {A = List ℕ × List ℕ} (then (on_line n (or_form v)) (λ v. Ok (v, rest))) (λ p. then (on_line n (f p.0)) (λ x. Ok (x, p.1)))) (λ p. judge_text (g p.0) (n + 1) p.1)
+read_by k n f g None rest = refl
+read_by {A = A} k n f g (Some v) rest = by (f v)
+  where
+    by : (r : Result A Refusal) → then (on_line n (saying g r)) (λ k'. judge_text k' (n + 1) rest)
+        ≡ then {A = A × List ℕ} (then (on_line n r) (λ x. Ok (x, rest))) (λ p. judge_text (g p.0) (n + 1) p.1)
+    by (Ok x) = refl
+    by (Err e) = refl
 
 -- where a line that is not the last is read as it is judged, the text is judged by what is read
-pub reads_on : {A : Type 0} (k : Before) (n : ℕ) (f : List ℕ → Result A Refusal) (g : A → Before) (text : List ℕ) → whole k ≡ None
-    → ((line : List ℕ) → saying g (f line) ≡ judge_line k line)
-    → judge_text k n text ≡ then (read_line n f text) (λ p. judge_text (g p.0) (n + 1) p.1)
-reads_on {A = A} k n f g text w s = by (past 10 text) refl
+pub reads_on : {A : Type 0} (k : Before) (key : Key) (n : ℕ) (f : List ℕ → Result A Refusal) (g : A → Before) (text : List ℕ) → whole k ≡ None
+    → ((line : List ℕ) → saying g (then (or_form (behind (start_of key) line)) f) ≡ judge_line k line)
+    → judge_text k n text ≡ then (read_line key n f text) (λ p. judge_text (g p.0) (n + 1) p.1)
+reads_on {A = A} k key n f g text w s = by (past 10 text) refl
   where
     by : (o : Option (List ℕ)) → past 10 text ≡ o
-        → judge_text k n text ≡ then {A = A × List ℕ} (then (line_by n (up_to 10 text) o) (λ p. then (on_line n (f p.0)) (λ x. Ok (x, p.1)))) (λ p. judge_text (g p.0) (n + 1) p.1)
+        → judge_text k n text
+        ≡ then {A = A × List ℕ}
+        (then {A = List ℕ × List ℕ} (then (line_by n (up_to 10 text) o) (λ p. then (on_line n (or_form (behind (start_of key) p.0))) (λ v. Ok (v, p.1)))) (λ p. then (on_line n (f p.0)) (λ x. Ok (x, p.1))))
+        (λ p. judge_text (g p.0) (n + 1) p.1)
     by None e = ap (judge_from k n) (pieces_last 10 text (up_to 10 text) refl (sym e)) ∙ ap (λ o. ending n o (up_to 10 text)) w
     by (Some rest) e =
         judge_more k n text (up_to 10 text) rest (pieces_more 10 text (up_to 10 text) rest refl (sym e))
         ∙ ap (λ r. then (on_line n r) (λ k'. judge_text k' (n + 1) rest)) (sym (s (up_to 10 text)))
-        ∙ read_by k n g (f (up_to 10 text)) rest
+        ∙ read_by k n f g (behind (start_of key) (up_to 10 text)) rest
 
 -- values
 
 -- a number with its bounds
 number_says : (k : Before) (low high : ℕ) (g : ℕ → Before) (v : Option (List ℕ))
     → ((t : List ℕ) → judge_value k (Some t) ≡ cond (numeral t) (cond (within low high (value_of t)) (Ok (g (value_of t))) (Err Range)) (Err Form))
-    → saying g (numbered low high v) ≡ judge_value k v
+    → saying g (then (or_form v) (numbered low high)) ≡ judge_value k v
 number_says k low high g None e = refl
 number_says k low high g (Some t) e = split (numeral t) (within low high (value_of t)) ∙ sym (e t)
   where
@@ -62,7 +74,7 @@ number_says k low high g (Some t) e = split (numeral t) (within low high (value_
     split true false = refl
     split false b = refl
 
-width_says : (c : ℕ) (v : Option (List ℕ)) → saying (Width c) (width_in c v) ≡ judge_value (Cells c) v
+width_says : (c : ℕ) (v : Option (List ℕ)) → saying (Width c) (then (or_form v) (width_in c)) ≡ judge_value (Cells c) v
 width_says c None = refl
 width_says c (Some t) = split (numeral t) (within 1 65535 (value_of t)) (leb (sections_of c (value_of t)) 64)
   where
@@ -77,7 +89,7 @@ width_says c (Some t) = split (numeral t) (within 1 65535 (value_of t)) (leb (se
     split true false d = refl
     split false b d = refl
 
-rule_says : (c w n : ℕ) (v : Option (List ℕ)) → saying (Share c w n) (ruled v) ≡ judge_value (Markers c w n) v
+rule_says : (c w n : ℕ) (v : Option (List ℕ)) → saying (Share c w n) (then (or_form v) ruled) ≡ judge_value (Markers c w n) v
 rule_says c w n None = refl
 rule_says c w n (Some t) = split (rule_named t)
   where
@@ -88,7 +100,7 @@ rule_says c w n (Some t) = split (rule_named t)
 -- a number with its bounds, and with the rule q of overlap
 clear_says : (k : Before) (low high : ℕ) (q : ℕ → Bool) (g : ℕ → Before) (v : Option (List ℕ))
     → ((t : List ℕ) → judge_value k (Some t) ≡ cond (numeral t) (cond (within low high (value_of t)) (cond (q (value_of t)) (Ok (g (value_of t))) (Err Overlap)) (Err Range)) (Err Form))
-    → saying g (then (numbered low high v) (λ x. cond (q x) (Ok x) (Err Overlap))) ≡ judge_value k v
+    → saying g (then (or_form v) (λ t. then (numbered low high t) (λ x. cond (q x) (Ok x) (Err Overlap)))) ≡ judge_value k v
 clear_says k low high q g None e = refl
 clear_says k low high q g (Some t) e = split (numeral t) (within low high (value_of t)) (q (value_of t)) refl ∙ sym (e t)
   where
@@ -104,7 +116,7 @@ clear_says k low high q g (Some t) e = split (numeral t) (within low high (value
 list_says : (k : Before) (before most objects : ℕ) (g : ℕ × List ℕ → Before) (v : Option (List ℕ))
     → ((t : List ℕ) → judge_value k (Some t)
     ≡ cond (numerals t) (cond (leb (largest (numbers t)) 65535 && leb (before + length (numbers t)) most) (cond (leb (largest (numbers t)) objects) (Ok (g (length (numbers t), t))) (Err Stranger)) (Err Range)) (Err Form))
-    → saying g (list_in before most objects v) ≡ judge_value k v
+    → saying g (then (or_form v) (list_in before most objects)) ≡ judge_value k v
 list_says k before most objects g None e = refl
 list_says k before most objects g (Some t) e =
     split (numerals t) (leb (largest (numbers t)) 65535 && leb (before + length (numbers t)) most) (leb (largest (numbers t)) objects) ∙ sym (e t)
@@ -121,17 +133,18 @@ list_says k before most objects g (Some t) e =
 
 pub header_goes : (text : List ℕ) → judge_text Start 1 text ≡ then (read_header text) (λ p. judge_text (Objects p.0 [] p.0.objects) 6 p.1)
 header_goes text =
-    reads_on Start 1 _ Cells text refl (λ l. number_says Start 1 65535 Cells (behind (codes "cells=") l) (λ t. refl))
-    ∙ link (read_cells text) _ _ _ (λ c.
-    reads_on (Cells c.0) 2 _ (Width c.0) c.1 refl (λ l. width_says c.0 (behind (codes "width=") l))
-    ∙ link (read_width c.0 c.1) _ _ _ (λ w.
-    reads_on (Width c.0 w.0) 3 _ (Markers c.0 w.0) w.1 refl (λ l. number_says (Width c.0 w.0) 1 16 (Markers c.0 w.0) (behind (codes "markers=") l) (λ t. refl))
-    ∙ link (read_markers w.1) _ _ _ (λ m.
-    reads_on (Markers c.0 w.0 m.0) 4 _ (Share c.0 w.0 m.0) m.1 refl (λ l. rule_says c.0 w.0 m.0 (behind (codes "share=") l))
-    ∙ link (read_share m.1) _ _ _ (λ s.
-    reads_on (Share c.0 w.0 m.0 s.0) 5 _ (said c w m s) s.1 refl
+    reads_on Start keys.Cells 1 _ Cells text refl (λ l. number_says Start 1 65535 Cells (behind (codes "cells=") l) (λ t. refl))
+    ∙ link (read_line keys.Cells 1 (numbered 1 65535) text) _ _ _ (λ c.
+    reads_on (Cells c.0) keys.Width 2 _ (Width c.0) c.1 refl (λ l. width_says c.0 (behind (codes "width=") l))
+    ∙ link (read_line keys.Width 2 (width_in c.0) c.1) _ _ _ (λ w.
+    reads_on (Width c.0 w.0) keys.Markers 3 _ (Markers c.0 w.0) w.1 refl
+    (λ l. number_says (Width c.0 w.0) 1 16 (Markers c.0 w.0) (behind (codes "markers=") l) (λ t. refl))
+    ∙ link (read_line keys.Markers 3 (numbered 1 16) w.1) _ _ _ (λ m.
+    reads_on (Markers c.0 w.0 m.0) keys.Share 4 _ (Share c.0 w.0 m.0) m.1 refl (λ l. rule_says c.0 w.0 m.0 (behind (codes "share=") l))
+    ∙ link (read_line keys.Share 4 ruled m.1) _ _ _ (λ s.
+    reads_on (Share c.0 w.0 m.0 s.0) keys.Objects 5 _ (said c w m s) s.1 refl
     (λ l. number_says (Share c.0 w.0 m.0 s.0) 0 65535 (said c w m s) (behind (codes "objects=") l) (λ t. refl))
-    ∙ link (read_objects s.1) _ _ _ (λ o. refl)))))
+    ∙ link (read_line keys.Objects 5 (numbered 0 65535) s.1) _ _ _ (λ o. refl)))))
   where
     said : ℕ × List ℕ → ℕ × List ℕ → ℕ × List ℕ → SharingRule × List ℕ → ℕ → Before
     said c w m s o = Objects (record { cells = c.0; width = w.0; markers = m.0; share = s.0; objects = o }) [] o
@@ -145,16 +158,16 @@ pub object_goes : (h : Header) (done : List Object) (left n : ℕ) (text : List 
     → judge_text (Objects h done (suc left)) n text
     ≡ then (read_object h (end_from 0 done) (references_in done) n text) (λ p. judge_text (Objects h (done ++ object_read p.0 ∷ []) left) (n + 3) p.1)
 object_goes h done left n text =
-    reads_on (Objects h done (suc left)) n _ (At h done left) text refl
+    reads_on (Objects h done (suc left)) keys.At n _ (At h done left) text refl
     (λ l. clear_says (Objects h done (suc left)) 0 65535 (λ a. leb (end_from 0 done) a) (At h done left) (behind (codes "at=") l) (λ t. refl))
-    ∙ link (read_at n (end_from 0 done) text) _ _ _ (λ a.
-    reads_on (At h done left a.0) (n + 1) _ (Len h done left a.0) a.1 refl
+    ∙ link (read_line keys.At n (at_in (end_from 0 done)) text) _ _ _ (λ a.
+    reads_on (At h done left a.0) keys.Len (n + 1) _ (Len h done left a.0) a.1 refl
     (λ l. clear_says (At h done left a.0) 1 65535 (λ x. leb (a.0 + x) h.cells) (Len h done left a.0) (behind (codes "len=") l) (λ t. refl))
-    ∙ link (read_len (n + 1) a.0 h.cells a.1) _ _ _ (λ l.
+    ∙ link (read_line keys.Len (n + 1) (len_in a.0 h.cells) a.1) _ _ _ (λ l.
     ap (λ m. judge_text (Len h done left a.0 l.0) m l.1) two
-    ∙ reads_on (Len h done left a.0 l.0) (n + 2) _ (said a l) l.1 refl
+    ∙ reads_on (Len h done left a.0 l.0) keys.Refs (n + 2) _ (said a l) l.1 refl
     (λ r. list_says (Len h done left a.0 l.0) (references_in done) 262144 h.objects (said a l) (behind (codes "refs=") r) (λ t. refl))
-    ∙ link (read_refs (n + 2) (references_in done) h.objects l.1) _ _ _ (λ r. ap (λ m. judge_text (said a l r.0) m r.1) three)))
+    ∙ link (read_line keys.Refs (n + 2) (list_in (references_in done) 262144 h.objects) l.1) _ _ _ (λ r. ap (λ m. judge_text (said a l r.0) m r.1) three)))
   where
     two : n + 1 + 1 ≡ n + 2
     two = omega arith
@@ -168,7 +181,7 @@ object_goes h done left n text =
 pub roots_go : (h : Header) (done : List Object) (n : ℕ) (text : List ℕ)
     → judge_text (Objects h done 0) n text ≡ then (read_roots n h.objects text) (λ p. judge_text (Roots h done (numbers p.0.1)) (n + 1) p.1)
 roots_go h done n text =
-    reads_on (Objects h done 0) n _ (λ p. Roots h done (numbers p.1)) text refl
+    reads_on (Objects h done 0) keys.Roots n _ (λ p. Roots h done (numbers p.1)) text refl
     (λ l. list_says (Objects h done 0) 0 4096 h.objects (λ p. Roots h done (numbers p.1)) (behind (codes "roots=") l)
     (λ t. ap (λ m. cond (numerals t) (cond (leb (largest (numbers t)) 65535 && leb m 4096) (cond (leb (largest (numbers t)) h.objects) (Ok (Roots h done (numbers t))) (Err Stranger)) (Err Range)) (Err Form)) (sym (zero-add (length (numbers t))))))
 

@@ -1,15 +1,14 @@
 -- Looking through a list of numbers, piece by piece.
-use Rattle.std.proofs.Common.{◌≡◌, ℕ, ◌+◌, ◌-◌, ◌^◌, ◌<◌, ◌≤◌, min, max, Bool, true, false, cond, ◌&&◌, leb, List, [], ◌∷◌, map, length, Some, None, Ok, Err, Result, sym, refl, ap, ◌∙◌, arith}
-use Rattle.std.proofs.lemmas.List.{length-map}
+use Rattle.std.proofs.Common.{◌≡◌, ℕ, ◌+◌, ◌-◌, ◌^◌, ◌<◌, ◌≤◌, min, max, Bool, true, false, cond, ◌&&◌, leb, List, [], ◌∷◌, map, length, get_or, drop, Ok, Err, Result, sym, refl, ap, ◌∙◌, arith}
+use Rattle.std.proofs.lemmas.List.{length-map, drop_more, drop_all}
 use Rattle.std.proofs.lemmas.Bool.{lt-leb, le-leb, and_right, and_from}
 use Rattle.refusal.specs.declared.Refusal.{Refusal}
 use Rattle.refusal.specs.declared.Refusal.TheVariants.{Form, Range, Stranger}
 use Rattle.listing.specs.Lines.{counted}
 use Rattle.listing.specs.declared.list.Survey.{Survey}
 use Rattle.listing.specs.Numeral.{numeral, value_of}
-use Rattle.listing.specs.Pieces.{up_to, past, pieces, listed, all_numerals, numerals, numbers, largest}
+use Rattle.listing.specs.Pieces.{pieces, listed, all_numerals, numerals, numbers, largest}
 use Rattle.listing.specs.Survey.{surveyed, NumbersIn}
-use Rattle.listing.proofs.Cuts.{pieces_step, pieces_more, pieces_last}
 
 abbrev pub top : ℕ
 top = 4294967295
@@ -40,27 +39,33 @@ err_cond : {A : Type 0} (b : Bool) (x : A) (y : Refusal) → Err y ≡ cond b (O
 err_cond true x y e = let z : ◌≡◌ {A = ℕ} 0 1 = cc in absurd (omega arith)
 err_cond false x y e = (refl, cc)
 
-pub survey_more : (s : Survey) (xs p ys : List ℕ) (n : ℕ) → p ≡ up_to 44 xs → Some ys ≡ past 44 xs → Ok n ≡ cond (numeral p) (Ok (min (value_of p) top)) (Err Form)
-    → survey_after (record { count = s.count + 1; largest = max s.largest n }) (pieces 44 ys) ≡ survey_after s (pieces 44 xs)
-survey_more s xs p ys n e f g =
+-- the piece at place i is the next
+pub survey_more : (s : Survey) (ps : List (List ℕ)) (i : ℕ) (p : List ℕ) (n : ℕ) → (i < length ps) × (p ≡ get_or ps i p)
+    → Ok n ≡ cond (numeral p) (Ok (min (value_of p) top)) (Err Form)
+    → survey_after (record { count = s.count + 1; largest = max s.largest n }) (drop (i + 1) ps) ≡ survey_after s (drop i ps)
+survey_more s ps i p n at g =
     let h = ok_cond (numeral p) (min (value_of p) top) n g in
-    survey_piece s p (pieces 44 ys) n h.0 h.1 ∙ ap (survey_after s) (sym (pieces_more 44 xs p ys e f))
+    survey_piece s p (drop (i + 1) ps) n h.0 h.1 ∙ ap (survey_after s) (sym (drop_more ps i p at.0 ∙ ap (λ q. q ∷ drop (i + 1) ps) (sym at.1)))
 
-pub survey_last : (s : Survey) (xs p : List ℕ) (n : ℕ) → p ≡ up_to 44 xs → None ≡ past 44 xs → Ok n ≡ cond (numeral p) (Ok (min (value_of p) top)) (Err Form)
-    → Ok (record { count = s.count + 1; largest = max s.largest n }) ≡ survey_after s (pieces 44 xs)
-survey_last s xs p n e f g =
-    let h = ok_cond (numeral p) (min (value_of p) top) n g in
-    let a : s.count + 1 ≡ s.count + 1 + 0 = omega arith in
-    let b : max s.largest n ≡ max (max s.largest n) 0 = omega arith in
-    let start : Ok (record { count = s.count + 1; largest = max s.largest n }) ≡ survey_after (record { count = s.count + 1; largest = max s.largest n }) [] =
-    ap (λ k. Ok (record { count = k; largest = max s.largest n })) a ∙ ap (λ k. Ok (record { count = s.count + 1 + 0; largest = k })) b in
-    start ∙ survey_piece s p [] n h.0 h.1 ∙ ap (survey_after s) (sym (pieces_last 44 xs p e f))
-
-pub survey_not : (s : Survey) (xs p : List ℕ) (y : Refusal) → p ≡ up_to 44 xs → Err y ≡ cond (numeral p) (Ok (min (value_of p) top)) (Err Form)
-    → Err y ≡ survey_after s (pieces 44 xs)
-survey_not s xs p y e g =
+pub survey_not : (s : Survey) (ps : List (List ℕ)) (i : ℕ) (p : List ℕ) (y : Refusal) → (i < length ps) × (p ≡ get_or ps i p)
+    → Err y ≡ cond (numeral p) (Ok (min (value_of p) top)) (Err Form) → Err y ≡ survey_after s (drop i ps)
+survey_not s ps i p y at g =
     let h = err_cond (numeral p) (min (value_of p) top) y g in
-    rw (pieces_step 44 xs, sym e, h.0) (ap Err h.1)
+    let e : drop i ps ≡ p ∷ drop (i + 1) ps = drop_more ps i p at.0 ∙ ap (λ q. q ∷ drop (i + 1) ps) (sym at.1) in
+    rw (e, h.0) (ap Err h.1)
+
+pub survey_all : (s : Survey) (ps : List (List ℕ)) (i : ℕ) → length ps ≤ i → Ok s ≡ survey_after s (drop i ps)
+survey_all s ps i l =
+    let a : s.count ≡ s.count + 0 = omega arith in
+    let b : s.largest ≡ max s.largest (min 0 top) = omega arith in
+    ap (λ k. Ok (record { count = k; largest = s.largest })) a
+    ∙ ap (λ k. Ok (record { count = s.count + 0; largest = k })) b
+    ∙ ap (survey_after s) (sym (drop_all i ps l))
+
+-- a list that is not empty is its pieces
+pub listed_some : (v : List ℕ) → 0 < length v → surveyed (pieces 44 v) ≡ surveyed (listed v)
+listed_some [] l = absurd (omega arith)
+listed_some (b ∷ bs) l = refl
 
 -- what a survey says of the list
 survey_facts : (v : List ℕ) (s : Survey) → Ok s ≡ surveyed (listed v) → (numerals v ≡ true) × (s.count ≡ length (numbers v)) × (s.largest ≡ min (largest (numbers v)) top)

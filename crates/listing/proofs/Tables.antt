@@ -1,14 +1,12 @@
 -- Filling the tables, one object after the other.
 use Rattle.std.proofs.Common.{◌≡◌, ℕ, ◌+◌, ◌<◌, ◌≤◌, List, [], ◌∷◌, ◌++◌, length, get_or, take, drop, set, sym, ap, ◌∙◌, add-zero, zero-add, arith}
-use lib.Seq.{paste}
 use Rattle.std.proofs.lemmas.List.{append_assoc, length-append, length-drop, length_push, drop-drop, drop_at, drop_more, take_at, set_at, flat_map_more}
-use Rattle.std.proofs.lemmas.List.Edits.{paste_all}
 use Rattle.std.proofs.lemmas.List.Sums.{sum_by_push, sum_by-cons}
 use Rattle.heap.specs.declared.entry.ObjectEntry.{ObjectEntry}
 use Rattle.heap.specs.Heap.{Heap, Object, references_in}
 use Rattle.heap.specs.Tables.{Tables, blank, entries_from, references_of}
 use Rattle.heap.proofs.Filled.{length_entries, length_references}
-use Rattle.listing.specs.Filling.{with_objects, with_references, with_roots, with_heap}
+use Rattle.listing.specs.Filling.{with_object, with_roots, with_objects, with_heap}
 use Rattle.listing.specs.declared.settings.Header.{Header}
 use Rattle.listing.specs.declared.settings.Settings.{Settings}
 use Rattle.listing.proofs.Checked.{heap_read}
@@ -37,8 +35,9 @@ object_filled old os o i e l =
     ∙ ap (λ m. entries_from 0 (os ++ o ∷ []) ++ drop m old) (sym p)
 
 -- the references of one more object behind those that are filled in
-pub references_filled : (old : List ℕ) (os : List Object) (o : Object) (n count : ℕ) → references_in os ≡ n → count ≡ length o.refs
-    → paste (references_of os ++ drop (references_in os) old) n o.refs count ≡ references_of (os ++ o ∷ []) ++ drop (references_in (os ++ o ∷ [])) old
+references_filled : (old : List ℕ) (os : List Object) (o : Object) (n count : ℕ) → references_in os ≡ n → count ≡ length o.refs
+    → take n (references_of os ++ drop (references_in os) old) ++ (o.refs ++ drop (n + count) (references_of os ++ drop (references_in os) old))
+    ≡ references_of (os ++ o ∷ []) ++ drop (references_in (os ++ o ∷ [])) old
 references_filled old os o n count e c =
     let here : length (references_of os) ≡ n = length_references os ∙ e in
     let m : references_in (os ++ o ∷ []) ≡ n + count = omega (arith, sum_by_push {X = Object} (λ o. length o.refs) os o, e, c) in
@@ -46,15 +45,14 @@ references_filled old os o n count e c =
     let front : take n all ≡ references_of os = take_at (references_of os) (drop (references_in os) old) n here in
     let back : drop (n + count) all ≡ drop (n + count) old =
     sym (drop-drop count n all) ∙ ap (drop count) (drop_at (references_of os) (drop (references_in os) old) n here ∙ ap (λ k. drop k old) e) ∙ drop-drop count n old in
-    paste_all all n o.refs count c
-    ∙ ap (λ xs. xs ++ (o.refs ++ drop (n + count) all)) front
+    ap (λ xs. xs ++ (o.refs ++ drop (n + count) all)) front
     ∙ ap (λ xs. references_of os ++ (o.refs ++ xs)) back
     ∙ sym (append_assoc (references_of os) o.refs (drop (n + count) old))
     ∙ ap (λ xs. xs ++ drop (n + count) old) (flat_map_more (λ o. o.refs) [] os o)
     ∙ ap (λ k. references_of (os ++ o ∷ []) ++ drop k old) (sym m)
 
-abbrev pub with_entries : List ObjectEntry → Tables → Tables
-with_entries entries t =
+abbrev both : List ObjectEntry → List ℕ → Tables → Tables
+both entries references t =
     record {
       cells = t.cells;
       width = t.width;
@@ -62,26 +60,23 @@ with_entries entries t =
       references = t.references;
       roots = t.roots;
       object_table = entries;
-      reference_table = t.reference_table;
+      reference_table = references;
       root_table = t.root_table;
     }
 
 -- the tables with one more object
-pub filled_more : (old now last : Tables) (os : List Object) (o : Object) (i n count : ℕ) → now ≡ with_objects os old
-    → last ≡ with_references (paste now.reference_table n o.refs count) now
-    → length os ≡ i → i < length old.object_table → references_in os ≡ n → count ≡ length o.refs
-    → with_entries (set last.object_table i (record { at = o.at; len = o.len; first = n; count = count })) last ≡ with_objects (os ++ o ∷ []) old
-filled_more old now last os o i n count e f l r m c =
+pub filled_more : (old now : Tables) (os : List Object) (o : Object) (i n count : ℕ) → now ≡ with_objects os old → length os ≡ i → i < length old.object_table
+    → references_in os ≡ n → count ≡ length o.refs
+    → with_object i (record { at = o.at; len = o.len; first = n; count = count }) o.refs now ≡ with_objects (os ++ o ∷ []) old
+filled_more old now os o i n count e l r m c =
     let entry : ObjectEntry = record { at = o.at; len = o.len; first = n; count = count } in
     let same : entry ≡ entry_of (references_in os) o =
     ap (λ k. record { at = o.at; len = o.len; first = k; count = count }) (sym m) ∙ ap (λ k. record { at = o.at; len = o.len; first = references_in os; count = k }) c in
-    ap (λ t. with_entries (set t.object_table i entry) t) (f ∙ ap (λ t. with_references (paste t.reference_table n o.refs count) t) e)
-    ∙ ap (λ x. with_entries (set (entries_from 0 os ++ drop (length os) old.object_table) i x)
-    (with_references (paste (references_of os ++ drop (references_in os) old.reference_table) n o.refs count) old)) same
-    ∙ ap (λ xs. with_entries xs (with_references (paste (references_of os ++ drop (references_in os) old.reference_table) n o.refs count) old))
-    (object_filled old.object_table os o i l r)
-    ∙ ap (λ xs. with_entries (entries_from 0 (os ++ o ∷ []) ++ drop (length (os ++ o ∷ [])) old.object_table) (with_references xs old))
-    (references_filled old.reference_table os o n count m c)
+    ap (with_object i entry o.refs) e
+    ∙ ap (λ xs. both xs (with_object i entry o.refs (with_objects os old)).reference_table old)
+    (ap (set (entries_from 0 os ++ drop (length os) old.object_table) i) same ∙ object_filled old.object_table os o i l r)
+    ∙ ap (λ xs. both (entries_from 0 (os ++ o ∷ []) ++ drop (length (os ++ o ∷ [])) old.object_table) xs old)
+    (append_assoc (take n (with_objects os old).reference_table) o.refs (drop (n + count) (with_objects os old).reference_table) ∙ references_filled old.reference_table os o n count m c)
 
 pub length_filled : (old now : Tables) (os : List Object) → now ≡ with_objects os old → references_in os ≤ length old.reference_table
     → length now.reference_table ≡ length old.reference_table
@@ -89,14 +84,13 @@ length_filled old now os e l =
     ap (λ t. length t.reference_table) e
     ∙ omega (arith, length-append (references_of os) (drop (references_in os) old.reference_table), length_references os, length-drop (references_in os) old.reference_table)
 
+pub length_entries_filled : (old now : Tables) (os : List Object) → now ≡ with_objects os old → length os ≤ length old.object_table
+    → length now.object_table ≡ length old.object_table
+length_entries_filled old now os e l =
+    ap (λ t. length t.object_table) e ∙ omega (arith, length-append (entries_from 0 os) (drop (length os) old.object_table), length_entries 0 os, length-drop (length os) old.object_table)
+
 -- the tables once the roots are filled in too
-pub roots_filled : (old now last : Tables) (h : Header) (os : List Object) (rs : List ℕ) (count : ℕ) (x : Heap × Settings) → now ≡ with_objects os old
-    → last ≡ with_roots (paste now.root_table 0 rs count) now → count ≡ length rs → x ≡ heap_read h os rs → last ≡ with_heap x.0 old
-roots_filled old now last h os rs count x e f c s =
-    let zero : 0 + count ≡ length rs = omega (arith, c) in
-    let roots : paste old.root_table 0 rs count ≡ rs ++ drop (length rs) old.root_table =
-    paste_all old.root_table 0 rs count c ∙ ap (λ n. rs ++ drop n old.root_table) zero in
-    f
-    ∙ ap (λ t. with_roots (paste t.root_table 0 rs count) t) e
-    ∙ ap (λ xs. with_roots xs (with_objects os old)) roots
-    ∙ ap (λ y. with_heap y.0 old) (sym s)
+pub roots_filled : (old now : Tables) (h : Header) (os : List Object) (rs : List ℕ) (count : ℕ) (x : Heap × Settings) → now ≡ with_objects os old
+    → count ≡ length rs → x ≡ heap_read h os rs → with_roots count rs now ≡ with_heap x.0 old
+roots_filled old now h os rs count x e c s =
+    ap (with_roots count rs) e ∙ ap (λ n. with_roots n rs (with_objects os old)) c ∙ ap (λ y. with_heap y.0 old) (sym s)

@@ -1,6 +1,7 @@
 -- What filling the tables of a heap changes. Assumes nothing.
-use Rattle.std.specs.Prelude.{◌≡◌, ℕ, ◌+◌, ◌*◌, ◌≤◌, List, [], ◌++◌, length, drop, Ok}
+use Rattle.std.specs.Prelude.{◌≡◌, ℕ, ◌+◌, ◌*◌, ◌≤◌, List, [], ◌++◌, length, take, drop, Ok, slice_set}
 use Rattle.heap.specs.declared.checked.CheckedHeap.{CheckedHeap}
+use Rattle.heap.specs.declared.entry.ObjectEntry.{ObjectEntry}
 use Rattle.heap.specs.Heap.{Heap, Object, references_in}
 use Rattle.heap.specs.Tables.{Tables, entries_from, references_of, filled}
 use Rattle.listing.specs.declared.settings.Header.{Header}
@@ -13,21 +14,23 @@ abbrev pub SameLenders : CheckedHeap → CheckedHeap → Type 0
 SameLenders h h' =
     (h'.object_table.ghost_name ≡ h.object_table.ghost_name) × (h'.reference_table.ghost_name ≡ h.reference_table.ghost_name) × (h'.root_table.ghost_name ≡ h.root_table.ghost_name)
 
-abbrev pub with_references : List ℕ → Tables → Tables
-with_references references t =
+-- the tables with one more object: its entry at place i, its references where the entry says
+abbrev pub with_object : ℕ → ObjectEntry → List ℕ → Tables → Tables
+with_object i entry refs t =
     record {
       cells = t.cells;
       width = t.width;
       objects = t.objects;
       references = t.references;
       roots = t.roots;
-      object_table = t.object_table;
-      reference_table = references;
+      object_table = slice_set t.object_table i entry;
+      reference_table = take entry.first t.reference_table ++ refs ++ drop (entry.first + entry.count) t.reference_table;
       root_table = t.root_table;
     }
 
-abbrev pub with_roots : List ℕ → Tables → Tables
-with_roots roots t =
+-- the tables with so many roots
+abbrev pub with_roots : ℕ → List ℕ → Tables → Tables
+with_roots count roots t =
     record {
       cells = t.cells;
       width = t.width;
@@ -36,7 +39,7 @@ with_roots roots t =
       roots = t.roots;
       object_table = t.object_table;
       reference_table = t.reference_table;
-      root_table = roots;
+      root_table = roots ++ drop count t.root_table;
     }
 
 -- the tables once objects are filled in

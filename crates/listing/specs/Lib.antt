@@ -3,6 +3,7 @@ pub mod Pieces
 pub mod Survey
 pub mod Rules
 pub mod Judge
+pub mod Keys
 pub mod Lines
 pub mod Reading
 pub mod Filling

@@ -39,9 +39,9 @@ numerals text = all_numerals (listed text)
 abbrev pub numbers : List ℕ → List ℕ
 numbers text = map value_of (listed text)
 
--- the first number of a list; what is no number counts as 0, and one above 65,535 as that
-abbrev pub first_number : List ℕ → ℕ
-first_number text = min (cond (numeral (up_to 44 text)) (value_of (up_to 44 text)) 0) 65535
+-- the number that a piece is; what is no number counts as 0, and one above 65,535 as that
+abbrev pub number_in : List ℕ → ℕ
+number_in piece = min (cond (numeral piece) (value_of piece) 0) 65535
 
 abbrev pub largest : List ℕ → ℕ
 largest [] = 0

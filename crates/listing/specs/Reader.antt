@@ -6,7 +6,7 @@ use Rattle.refusal.specs.Table.{fault}
 use Rattle.heap.specs.Heap.{Heap, references_in}
 use Rattle.heap.specs.Tables.{Tables, filled}
 use Rattle.listing.specs.declared.settings.Settings.{Settings}
-use Rattle.listing.specs.declared.check.Totals.{Totals}
+use Rattle.listing.specs.declared.settings.Totals.{Totals}
 
 abbrev pub room_for : Totals → Tables → Bool
 room_for n t = nat_le n.header.objects (length t.object_table) && (nat_le n.references (length t.reference_table) && nat_le n.roots (length t.root_table))

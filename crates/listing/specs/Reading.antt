@@ -1,11 +1,26 @@
 -- What reading a listing leaves behind. Assumes nothing.
-use Rattle.std.specs.Prelude.{◌≡◌, ℕ, ◌+◌, ◌*◌, List, [], length, Ok}
+use Rattle.std.specs.Prelude.{◌≡◌, ℕ, ◌+◌, ◌*◌, List, [], length, Ok, Result}
 use Rattle.heap.specs.Heap.{Heap, Object, references_in}
+use Rattle.refusal.specs.declared.Fault.{Fault}
+use Rattle.listing.specs.declared.objects.ObjectReader.{ObjectReader}
+use Rattle.listing.specs.declared.objects.ObjectLines.{ObjectLines}
 use Rattle.listing.specs.declared.settings.Header.{Header}
 use Rattle.listing.specs.declared.settings.Settings.{Settings}
-use Rattle.listing.specs.declared.check.Totals.{Totals}
+use Rattle.listing.specs.declared.settings.Totals.{Totals}
+use Rattle.listing.specs.Lines.{read_object}
 use Rattle.listing.specs.Rules.{Objects}
 use Rattle.listing.specs.Judge.{judge, judge_text}
+
+-- the next object of a reader: its start, its length, its references with their number, and the text behind its lines
+abbrev pub object_at : ObjectReader → Result ((ℕ × ℕ × (ℕ × List ℕ)) × List ℕ) Fault
+object_at r = read_object r.header r.end r.references r.lines.number r.lines.text.now
+
+-- a reader has gone on by the object o
+pub record GoesOn (r : ObjectReader) (o : ObjectLines) (r' : ObjectReader) : Type 0 where
+  pub header : r'.header ≡ r.header
+  pub number : r'.lines.number ≡ r.lines.number + 3
+  pub end : r'.end ≡ o.at + o.len
+  pub references : r'.references ≡ r.references + o.refs.count
 
 -- the lines of all objects were read: `rest` stands behind them
 pub record ObjectsRead (h : Header) (text : List ℕ) (references : ℕ) (rest : List ℕ) : Type 0 where

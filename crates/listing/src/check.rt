@@ -3,57 +3,42 @@ ghost use Rattle.listing.specs.Rules.{Objects};
 ghost use Rattle.listing.specs.Judge.{judge, judge_text};
 ghost use Rattle.listing.specs.Reading.{ObjectsRead, Accepted};
 
-use crate::lines::{read_header, read_object, read_roots};
-use crate::settings::Header;
+use crate::header::read_header;
+use crate::lines::Lines;
+use crate::objects::ObjectReader;
+use crate::settings::{Header, Totals};
 use refusal::{Fault, Refusal};
 
-// What an accepted listing has in all.
-#[derive(Clone, Copy)]
-pub struct Totals {
-    pub header: Header,
-    pub references: usize,
-    pub roots: usize,
-}
-
-// Looks through the lines of all objects: the number of their references, and the text behind them.
-fn check_objects(header: Header, text: &[u8]) -> Result<(usize, &[u8]), Fault>
-    requires { header.objects ≤ 65535 }
-    ensures { MatchResult result (λ p. ObjectsRead header text.now p.0 p.1.now) (λ f. judge_text (Objects header [] header.objects) 6 text.now ≡ Err f) }
+// Looks through the lines of all objects: the number of their references, and the lines behind them.
+fn check_objects(header: Header, lines: Lines<'_>) -> Result<(usize, Lines<'_>), Fault>
+    requires { lines.number ≡ 6 }
+    ensures { MatchResult result (λ p. ObjectsRead header lines.entry.text.now p.0 p.1.text.now × (p.1.number ≡ 6 + 3 * header.objects)) (λ f. judge_text (Objects header [] header.objects) 6 lines.entry.text.now ≡ Err f) }
 {
-    let mut rest = text;
-    let mut number = 6u32;
-    let mut end = 0u32;
-    let mut references = 0usize;
-    for _i in 0..header.objects {
-        let (object, behind) = read_object(header, rest, number, end, references)?;
-        end = object.at + object.len;
-        references += object.refs.count;
-        number += 3;
-        rest = behind;
+    let mut objects = ObjectReader::new(header, lines);
+    for _ in 0..header.objects {
+        objects.next_object()?;
     }
-    Ok((references, rest))
+    Ok((objects.references, objects.lines))
 }
 
-// Judges a listing, and writes nothing: what it has in all, and the text behind its header.
-pub(crate) fn check(text: &[u8]) -> Result<(Totals, &[u8]), Fault>
-    ensures { MatchResult result (λ p. Accepted text.now p.0 p.1.now) (λ f. judge text.now ≡ Err f) }
+// Judges a listing, and writes nothing: what it has in all, and the lines behind its header.
+pub(crate) fn check(text: &[u8]) -> Result<(Totals, Lines<'_>), Fault>
+    ensures value { MatchResult result (λ p. Accepted text.now p.0 p.1.text.now) (λ f. judge text.now ≡ Err f) }
+    ensures number { MatchResult result (λ p. p.1.number ≡ 6) (λ _. Unit {0}) }
 {
     let (header, body) = read_header(text)?;
-    let (references, rest) = check_objects(header, body)?;
-    let number = 6 + 3 * header.objects;
-    let (roots, rest) = read_roots(rest, number, header.objects)?;
-    if rest.len() > 0 {
+    let (references, mut lines) = check_objects(header, body)?;
+    let roots = lines.roots(header.objects)?;
+    if !lines.text.is_empty() {
         return Err(Fault {
             refusal: Refusal::Form,
-            line: number + 1,
+            line: lines.number,
         });
     }
-    Ok((
-        Totals {
-            header,
-            references,
-            roots: roots.count,
-        },
-        body,
-    ))
+    let totals = Totals {
+        header,
+        references,
+        roots: roots.count,
+    };
+    Ok((totals, body))
 }

@@ -1,110 +1,104 @@
-ghost use Rattle.std.specs.Prelude.{◌≡◌, ℕ, ◌+◌, ◌≤◌, [], length, Ok, MatchResult};
-ghost use Rattle.std.specs.Option.{unwrap_or};
-ghost use Rattle.std.proofs.Math.Seq.{paste};
+ghost use Rattle.std.specs.Prelude.{◌≡◌, ℕ, ◌+◌, ◌*◌, ◌<◌, ◌≤◌, [], length, Ok, MatchResult};
 ghost use Rattle.heap.specs.Heap.{Heap};
 ghost use Rattle.heap.specs.Handed.{tables_of};
 ghost use Rattle.listing.specs.Rules.{Objects};
 ghost use Rattle.listing.specs.Judge.{judge_text};
 ghost use Rattle.listing.specs.declared.settings.Settings.{Settings};
-ghost use Rattle.listing.specs.Pieces.{past, first_number, numbers};
+ghost use Rattle.listing.specs.Pieces.{numbers, number_in};
 ghost use Rattle.listing.specs.Survey.{NumbersIn};
-ghost use Rattle.listing.specs.Filling.{SameLenders, with_references, with_roots, with_heap, BodyFits, ObjectsFilled};
+ghost use Rattle.listing.specs.Filling.{SameLenders, with_object, with_roots, with_heap, BodyFits, ObjectsFilled};
 
-use crate::line::NumberList;
-use crate::lines::{read_object, read_roots};
-use crate::list::cut;
+use crate::lines::Lines;
 use crate::number::number;
+use crate::objects::{ObjectLines, ObjectReader};
 use crate::settings::Header;
+use crate::value::NumberList;
 use heap::{CheckedHeap, ObjectEntry};
 use refusal::Fault;
 
-// The first number of a list, and the list behind it; what is no number counts as 0, and one above 65,535 as that.
-fn first_number(list: &[u8]) -> (u16, &[u8])
-    ensures number { result.0 ≡ first_number list.now }
-    ensures rest { result.1.now ≡ unwrap_or (past 44 list.now) [] }
+// The number that a piece of a list is; what is none counts as 0, and one above 65,535 as that.
+fn number_in(piece: &[u8]) -> u16
+    ensures { result ≡ number_in piece.now }
 {
-    let (piece, more) = cut(list, b',');
-    let n = number(piece).unwrap_or(0).min(65535) as u16;
-    match more {
-        Some(rest) => (n, rest),
-        None => (n, &[]),
+    let n = number(piece).unwrap_or(0);
+    u16::try_from(n).unwrap_or(u16::MAX)
+}
+
+// Writes the numbers of a list into its places, which are as many.
+fn fill_numbers(list: &[u8], places: &mut [u16])
+    requires { NumbersIn list.now (length places.old) }
+    ensures { places.new ≡ numbers list.now }
+{
+    // by index: of what `iter_mut` lends, a proof knows only how many there are
+    for (i, piece) in (0..places.len()).zip(list.split(|byte| *byte == b',')) {
+        places[i] = number_in(piece);
     }
 }
 
-// Writes the numbers of a list into the reference table, from place `first` on. The heap has no references yet.
-fn fill_references(list: NumberList<'_>, first: usize, heap: &mut CheckedHeap)
-    requires listed { NumbersIn list.text.now list.count }
-    requires room { first + list.count ≤ length heap.old.reference_table.now }
-    requires empty { heap.old.references ≡ 0 }
-    ensures tables { tables_of heap.new ≡ with_references (paste heap.old.reference_table.now first (numbers list.entry.text.now) list.entry.count) (tables_of heap.old) }
+// Writes an object, its entry at place `i` and its references from place `first` on. The heap has no objects yet.
+fn fill_object(object: ObjectLines<'_>, i: usize, first: usize, heap: &mut CheckedHeap)
+    requires listed { NumbersIn object.refs.text.now object.refs.count }
+    requires room { (i < length heap.old.object_table.now) × (first + object.refs.count ≤ length heap.old.reference_table.now) × (first + object.refs.count ≤ 262144) }
+    requires empty { (heap.old.objects ≡ 0) × (heap.old.references ≡ 0) }
+    ensures tables { tables_of heap.new ≡ with_object i (record { at = object.entry.at; len = object.entry.len; first = first; count = object.entry.refs.count }) (numbers object.entry.refs.text.now) (tables_of heap.old) }
     ensures lenders { SameLenders heap.old heap.new }
 {
-    let mut rest = list.text;
-    for i in 0..list.count {
-        let (n, behind) = first_number(rest);
-        heap.reference_table[first + i] = n;
-        rest = behind;
-    }
-}
-
-// Writes the numbers of a list into the root table. The heap has no roots yet.
-fn fill_roots(list: NumberList<'_>, heap: &mut CheckedHeap)
-    requires listed { NumbersIn list.text.now list.count }
-    requires room { list.count ≤ length heap.old.root_table.now }
-    requires empty { heap.old.roots ≡ 0 }
-    ensures tables { tables_of heap.new ≡ with_roots (paste heap.old.root_table.now 0 (numbers list.entry.text.now) list.entry.count) (tables_of heap.old) }
-    ensures lenders { SameLenders heap.old heap.new }
-{
-    let mut rest = list.text;
-    for i in 0..list.count {
-        let (n, behind) = first_number(rest);
-        heap.root_table[i] = n;
-        rest = behind;
-    }
+    let behind = first + object.refs.count;
+    fill_numbers(object.refs.text, &mut heap.reference_table[first..behind]);
+    heap.object_table[i] = ObjectEntry {
+        at: object.at,
+        len: object.len,
+        first: first as u32,
+        count: object.refs.count as u32,
+    };
 }
 
 // Reads the lines of all objects once more, and fills the tables. The heap is empty, and the listing is known to be right.
 fn fill_objects<'t>(
     header: Header,
-    text: &'t [u8],
+    lines: Lines<'t>,
     heap: &mut CheckedHeap,
-) -> Result<&'t [u8], Fault>
-    requires fits { BodyFits header text.now (tables_of heap.old) }
+) -> Result<Lines<'t>, Fault>
+    requires line { lines.number ≡ 6 }
+    requires fits { BodyFits header lines.text.now (tables_of heap.old) }
     requires empty { (heap.old.objects ≡ 0) × (heap.old.references ≡ 0) }
-    ensures filled { MatchResult result (λ rest. ObjectsFilled header text.now (tables_of heap.old) (tables_of heap.new) rest.now) (λ _. ⊥) }
+    ensures filled { MatchResult result (λ rest. ObjectsFilled header lines.entry.text.now (tables_of heap.old) (tables_of heap.new) rest.text.now × (rest.number ≡ 6 + 3 * header.objects)) (λ _. ⊥) }
     ensures lenders { SameLenders heap.old heap.new }
 {
-    let mut rest = text;
-    let mut number = 6u32;
-    let mut end = 0u32;
-    let mut references = 0usize;
+    let mut objects = ObjectReader::new(header, lines);
     for i in 0..header.objects {
-        let (object, behind) = read_object(header, rest, number, end, references)?;
-        let count = object.refs.count;
-        fill_references(object.refs, references, heap);
-        heap.object_table[i as usize] = ObjectEntry {
-            at: object.at as u16,
-            len: object.len as u16,
-            first: references as u32,
-            count: count as u32,
-        };
-        end = object.at + object.len;
-        references += count;
-        number += 3;
-        rest = behind;
+        let first = objects.references;
+        let object = objects.next_object()?;
+        fill_object(object, usize::from(i), first, heap);
     }
-    Ok(rest)
+    Ok(objects.lines)
+}
+
+// Writes the roots. The heap has no roots yet.
+fn fill_roots(roots: NumberList<'_>, heap: &mut CheckedHeap)
+    requires listed { NumbersIn roots.text.now roots.count }
+    requires room { roots.count ≤ length heap.old.root_table.now }
+    requires empty { heap.old.roots ≡ 0 }
+    ensures tables { tables_of heap.new ≡ with_roots roots.entry.count (numbers roots.entry.text.now) (tables_of heap.old) }
+    ensures lenders { SameLenders heap.old heap.new }
+{
+    fill_numbers(roots.text, &mut heap.root_table[..roots.count]);
 }
 
 // Reads the lines behind the header once more, and fills the tables. The heap is empty, and the listing is known to be right.
-pub(crate) fn fill_tables(header: Header, text: &[u8], heap: &mut CheckedHeap) -> Result<(), Fault>
-    requires fits { BodyFits header text.now (tables_of heap.old) }
+pub(crate) fn fill_tables(
+    header: Header,
+    lines: Lines<'_>,
+    heap: &mut CheckedHeap,
+) -> Result<(), Fault>
+    requires line { lines.number ≡ 6 }
+    requires fits { BodyFits header lines.text.now (tables_of heap.old) }
     requires empty { (heap.old.objects ≡ 0) × (heap.old.references ≡ 0) × (heap.old.roots ≡ 0) }
-    ensures filled { MatchResult result (λ _. (x : Heap × Settings) → judge_text (Objects header [] header.objects) 6 text.now ≡ Ok x → tables_of heap.new ≡ with_heap x.0 (tables_of heap.old)) (λ _. ⊥) }
+    ensures filled { MatchResult result (λ _. (x : Heap × Settings) → judge_text (Objects header [] header.objects) 6 lines.entry.text.now ≡ Ok x → tables_of heap.new ≡ with_heap x.0 (tables_of heap.old)) (λ _. ⊥) }
     ensures lenders { SameLenders heap.old heap.new }
 {
-    let rest = fill_objects(header, text, heap)?;
-    let (roots, _) = read_roots(rest, 6 + 3 * header.objects, header.objects)?;
+    let mut rest = fill_objects(header, lines, heap)?;
+    let roots = rest.roots(header.objects)?;
     fill_roots(roots, heap);
     Ok(())
 }

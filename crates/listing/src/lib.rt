@@ -3,13 +3,15 @@
 
 mod check;
 mod fill;
-mod keys;
-mod line;
+mod header;
+mod key;
 mod lines;
 mod list;
 mod number;
+mod objects;
 mod reader;
 mod settings;
+mod value;
 
 pub use reader::read;
 pub use settings::{Settings, SharingRule};

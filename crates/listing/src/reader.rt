@@ -8,9 +8,9 @@ ghost use Rattle.listing.specs.Filling.{SameLenders};
 ghost use Rattle.listing.specs.Laws.{Fitting, RefusedFor};
 ghost use Rattle.listing.specs.Reader.{room_for, with_totals, answered, left_in};
 
-use crate::check::{Totals, check};
+use crate::check::check;
 use crate::fill::fill_tables;
-use crate::settings::Settings;
+use crate::settings::{Settings, Totals};
 use heap::CheckedHeap;
 use refusal::{Fault, Refusal};
 
@@ -30,7 +30,7 @@ fn clear(heap: &mut CheckedHeap)
 fn has_room(heap: &CheckedHeap, totals: Totals) -> bool
     ensures { result ≡ room_for totals (tables_of heap.now) }
 {
-    totals.header.objects as usize <= heap.object_table.len()
+    usize::from(totals.header.objects) <= heap.object_table.len()
         && totals.references <= heap.reference_table.len()
         && totals.roots <= heap.root_table.len()
 }
@@ -41,9 +41,9 @@ fn set_numbers(heap: &mut CheckedHeap, totals: Totals)
     ensures tables { tables_of heap.new ≡ with_totals totals (tables_of heap.old) }
     ensures lenders { SameLenders heap.old heap.new }
 {
-    heap.cells = totals.header.cells as usize;
-    heap.width = totals.header.width as usize;
-    heap.objects = totals.header.objects as usize;
+    heap.cells = usize::from(totals.header.cells);
+    heap.width = usize::from(totals.header.width);
+    heap.objects = usize::from(totals.header.objects);
     heap.references = totals.references;
     heap.roots = totals.roots;
 }
@@ -70,7 +70,7 @@ pub fn read(text: &[u8], heap: &mut CheckedHeap) -> Result<Settings, Fault>
     fill_tables(totals.header, body, heap)?;
     set_numbers(heap, totals);
     Ok(Settings {
-        markers: totals.header.markers as usize,
+        markers: usize::from(totals.header.markers),
         share: totals.header.share,
     })
 }

@@ -52,9 +52,17 @@ pub struct Settings {
 // The first five lines of a listing.
 #[derive(Clone, Copy)]
 pub struct Header {
-    pub cells: u32,
-    pub width: u32,
-    pub markers: u32,
+    pub cells: u16,
+    pub width: u16,
+    pub markers: u16,
     pub share: SharingRule,
-    pub objects: u32,
+    pub objects: u16,
+}
+
+// What an accepted listing has in all.
+#[derive(Clone, Copy)]
+pub struct Totals {
+    pub header: Header,
+    pub references: usize,
+    pub roots: usize,
 }

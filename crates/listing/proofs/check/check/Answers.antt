@@ -1,36 +1,61 @@
-use Rattle.std.proofs.Common.{◌∙◌, arith}
+use Rattle.std.proofs.Common.{◌≡◌, ◌+◌, ◌*◌, Err, sym, ap, ◌∙◌, arith, rules}
 use Rattle.std.proofs.lemmas.List.{nil_from_length}
 use Rattle.std.proofs.lemmas.Result.{err_from_is_err_and}
+use Rattle.refusal.specs.declared.Refusal.TheVariants.{Form}
+use Rattle.refusal.specs.Table.{fault}
+use Rattle.listing.specs.Lines.{read_roots}
 use Rattle.listing.proofs.Checked.{header_refused, headed, roots_refused, accepted_read, more_behind}
 use Rattle.listing.proofs.check.check.Goals as goal
 
 pub returns-in_err-header : goal.returns-in_err-header
 returns-in_err-header c =
     let p = err_from_is_err_and c.from_residual.result c.from_residual.ensures.1 in
-    rw (p.1, p.2) (((header_refused c.args.text.now c.in_err-header.field-0.0 c.in_err-header.ensures.value)))
+    rw (p.1, p.2) (record { value = header_refused c.args.text.now c.in_err-header.field-0.0 c.in_err-header.ensures.value; number = tt })
 
 pub returns-in_err-references : goal.returns-in_err-references
 returns-in_err-references c =
     let p = err_from_is_err_and c.from_residual-in_err-references.result c.from_residual-in_err-references.ensures.1 in
     rw (p.1, p.2)
-    (((headed c.args.text.now c.in_ok-header.body.now c.in_ok-header.header c.in_ok-header.ensures.value ∙ c.in_err-references.ensures)))
+    (record {
+      value = headed c.args.text.now c.in_ok-header.body.text.now c.in_ok-header.header c.in_ok-header.ensures.value ∙ c.in_err-references.ensures;
+      number = tt;
+    })
 
 pub returns-in_err-roots : goal.returns-in_err-roots
 returns-in_err-roots c =
     let p = err_from_is_err_and c.from_residual-in_err-roots.result c.from_residual-in_err-roots.ensures.1 in
+    let h = c.in_ok-header.header in
+    let at = ap (λ n. read_roots n h.objects c.in_ok-references.lines.text.now) (sym c.in_ok-references.ensures.1) in
     rw (p.1, p.2)
-    ((
-    (roots_refused c.args.text.now c.in_ok-header.body.now c.in_ok-references.rest.now c.in_ok-header.header c.in_ok-references.references
-    c.in_err-roots.field-0.0 c.in_ok-header.ensures.value c.in_ok-references.ensures c.in_err-roots.ensures.value)))
+    (record {
+      value =
+          roots_refused c.args.text.now c.in_ok-header.body.text.now c.in_ok-references.lines.text.now h c.in_ok-references.references c.in_err-roots.field-0.0
+          c.in_ok-header.ensures.value c.in_ok-references.ensures.0 (at ∙ c.in_err-roots.ensures.value);
+      number = tt;
+    })
 
 pub returns : goal.returns
 returns c =
-    accepted_read c.args.text.now c.in_ok-header.body.now c.in_ok-references.rest.now c.in_ok-roots.roots.text.now c.in_ok-roots.rest.now
-    c.in_ok-header.header c.in_ok-references.references c.in_ok-roots.roots.count c.in_ok-header.ensures.value
-    c.in_ok-references.ensures c.in_ok-roots.ensures.value (nil_from_length c.in_ok-roots.rest.now (omega arith)) c.in_ok-roots.ensures.counts.0.counted
+    let h = c.in_ok-header.header in
+    let at = ap (λ n. read_roots n h.objects c.in_ok-references.lines.text.now) (sym c.in_ok-references.ensures.1) in
+    record {
+      value =
+          accepted_read c.args.text.now c.in_ok-header.body.text.now c.in_ok-references.lines.text.now c.in_ok-roots.roots.text.now c.roots.new.self.text.now
+          h c.in_ok-references.references c.in_ok-roots.roots.count c.in_ok-header.ensures.value c.in_ok-references.ensures.0 (at ∙ c.in_ok-roots.ensures.value)
+          (nil_from_length c.roots.new.self.text.now (search rules)) c.in_ok-roots.ensures.counts.0.counted;
+      number = c.in_ok-header.ensures.numbers;
+    }
 
-pub returns-then-rest-gt0 : goal.returns-then-rest-gt0
-returns-then-rest-gt0 c =
-    more_behind c.args.text.now c.in_ok-header.body.now c.in_ok-references.rest.now c.in_ok-roots.roots.text.now c.in_ok-roots.rest.now
-    c.in_ok-header.header c.in_ok-references.references c.in_ok-roots.roots.count c.in_ok-header.ensures.value
-    c.in_ok-references.ensures c.in_ok-roots.ensures.value (omega arith)
+pub returns-then-not-is_empty : goal.returns-then-not-is_empty
+returns-then-not-is_empty c =
+    let h = c.in_ok-header.header in
+    let at = ap (λ n. read_roots n h.objects c.in_ok-references.lines.text.now) (sym c.in_ok-references.ensures.1) in
+    let line : c.roots.new.self.number ≡ 6 + 3 * h.objects + 1 = omega (arith, c.in_ok-roots.ensures.number, c.in_ok-references.ensures.1) in
+    record {
+      value =
+          more_behind c.args.text.now c.in_ok-header.body.text.now c.in_ok-references.lines.text.now c.in_ok-roots.roots.text.now c.roots.new.self.text.now
+          h c.in_ok-references.references c.in_ok-roots.roots.count c.in_ok-header.ensures.value c.in_ok-references.ensures.0 (at ∙ c.in_ok-roots.ensures.value)
+          (search rules)
+          ∙ ap (λ n. Err (fault Form n)) (sym line);
+      number = tt;
+    }

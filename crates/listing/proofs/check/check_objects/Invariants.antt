@@ -1,5 +1,6 @@
 use Rattle.listing.proofs.Progress.{ObjectsSoFar}
 use Rattle.listing.proofs.check.check_objects.Given as goal
 
-abbrev pub invariant-loop-i : goal.invariant-loop-i
-invariant-loop-i l = ObjectsSoFar l.header l.text l._i l.number l.end l.references l.rest
+-- as many objects as the loop made turns were read
+abbrev pub invariant-loop : goal.invariant-loop
+invariant-loop l = ObjectsSoFar l.fn.header l.fn.lines.text.now l.counter l.objects

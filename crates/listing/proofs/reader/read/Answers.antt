@@ -13,18 +13,19 @@ use Rattle.listing.proofs.reader.read.Goals as goal
 
 pub fill_tables-requires : goal.fill_tables-requires
 fill_tables-requires c =
-    let a = c.in_ok-totals.ensures in
+    let a = c.in_ok-totals.ensures.value in
     let e = c.clear.ensures.tables in
     record {
-      fits = body_fits c.args.text.now c.in_ok-totals.body.now c.in_ok-totals.totals (tables_of c.args.heap.now) (tables_of c.clear.new.heap) a
+      line = c.in_ok-totals.ensures.number;
+      fits = body_fits c.args.text.now c.in_ok-totals.body.text.now c.in_ok-totals.totals (tables_of c.args.heap.now) (tables_of c.clear.new.heap) a
           c.if-not-has_room.ensures e;
       empty = (ap (λ t. t.objects) e, ap (λ t. t.references) e, ap (λ t. t.roots) e);
     }
 
 pub set_numbers-requires : goal.set_numbers-requires
 set_numbers-requires c =
-    let a = c.in_ok-totals.ensures in
-    numbers_kept c.args.text.now c.in_ok-totals.body.now c.in_ok-totals.totals (tables_of c.args.heap.now) (tables_of c.clear.new.heap)
+    let a = c.in_ok-totals.ensures.value in
+    numbers_kept c.args.text.now c.in_ok-totals.body.text.now c.in_ok-totals.totals (tables_of c.args.heap.now) (tables_of c.clear.new.heap)
     (tables_of c.fill_tables.new.heap) a c.clear.ensures.tables (c.in_ok-fill_tables.ensures.filled a.heap a.behind)
 
 pub returns-in_err-totals : goal.returns-in_err-totals
@@ -32,7 +33,7 @@ returns-in_err-totals c =
     let text = c.args.text.now in
     let t = tables_of c.args.heap.now in
     let p = err_from_is_err_and c.from_residual.result c.from_residual.ensures.1 in
-    let e = c.in_err-totals.ensures in
+    let e = c.in_err-totals.ensures.value in
     let answer : c.from_residual.result ≡ answered (judge text) t = p.1 ∙ ap Err p.2 ∙ sym (ap (λ v. answered v t) e) in
     let tables : t ≡ left_in (judge text) t = sym (ap (λ v. left_in v t) e) in
     record {
@@ -49,8 +50,8 @@ pub returns-then-not-has_room : goal.returns-then-not-has_room
 returns-then-not-has_room c =
     let text = c.args.text.now in
     let t = tables_of c.args.heap.now in
-    let a = c.in_ok-totals.ensures in
-    let s = short_answer text c.in_ok-totals.body.now c.in_ok-totals.totals t a c.if-not-has_room.ensures in
+    let a = c.in_ok-totals.ensures.value in
+    let s = short_answer text c.in_ok-totals.body.text.now c.in_ok-totals.totals t a c.if-not-has_room.ensures in
     record {
       answer = s.0;
       tables = s.1;
@@ -67,20 +68,21 @@ returns c =
     let t = tables_of c.args.heap.now in
     let t' = tables_of c.set_numbers.new.heap in
     let n = c.in_ok-totals.totals in
-    let a = c.in_ok-totals.ensures in
-    let r : Result Settings Fault = Ok (record { markers = n.header.markers; share = n.header.share }) in
-    let f = totals_filled text c.in_ok-totals.body.now n t (tables_of c.clear.new.heap) (tables_of c.fill_tables.new.heap) a c.clear.ensures.tables
+    let a = c.in_ok-totals.ensures.value in
+    let r : Result Settings Fault = Ok (record { markers = c.from.result; share = n.header.share }) in
+    let f = totals_filled text c.in_ok-totals.body.text.now n t (tables_of c.clear.new.heap) (tables_of c.fill_tables.new.heap) a c.clear.ensures.tables
     (c.in_ok-fill_tables.ensures.filled a.heap a.behind) in
-    let s = full_answer text c.in_ok-totals.body.now n t t' a c.if-not-has_room.ensures (c.set_numbers.ensures.tables ∙ f) in
+    let s = full_answer text c.in_ok-totals.body.text.now n t t' a c.if-not-has_room.ensures (c.set_numbers.ensures.tables ∙ f) in
+    let answer : r ≡ answered (judge text) t = ap (λ m. Ok (record { markers = m; share = n.header.share })) c.from.ensures ∙ s.0 in
     let x = c.clear.ensures.lenders in
     let y = c.in_ok-fill_tables.ensures.lenders in
     let z = c.set_numbers.ensures.lenders in
     record {
-      answer = s.0;
+      answer = answer;
       tables = s.1;
       lenders = (z.0 ∙ y.0 ∙ x.0, z.1 ∙ y.1 ∙ x.1, z.2 ∙ y.2 ∙ x.2);
-      accepted = λ s' q. accepted_fits text t t' r s' s.0 s.1 q;
-      accepts = λ h s' q. fitting_accepted text t t' r h s' s.0 s.1 q;
-      refused = λ f q. refused_for text t r f s.0 q;
-      refuses = λ f q. refused_so text t r f s.0 q;
+      accepted = λ s' q. accepted_fits text t t' r s' answer s.1 q;
+      accepts = λ h s' q. fitting_accepted text t t' r h s' answer s.1 q;
+      refused = λ f q. refused_for text t r f answer q;
+      refuses = λ f q. refused_so text t r f answer q;
     }

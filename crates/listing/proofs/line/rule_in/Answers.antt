@@ -1,6 +1,0 @@
-use Rattle.std.proofs.Common.{rules}
-use Rattle.listing.proofs.Words.{named_is}
-use Rattle.listing.proofs.line.rule_in.Goals as goal
-
-pub returns : goal.returns
-returns c = search (rules, named_is)
