@@ -1,27 +1,8 @@
 -- Cutting a text at a separator, and what the pieces are.
-use Rattle.std.proofs.Common.{◌≡◌, ℕ, suc, ◌+◌, ◌<◌, ◌≤◌, true, false, cond, eqb, ◌≢◌, List, [], ◌∷◌, ◌++◌, length, get_or, take, drop, Some, None, Option, MatchOption, not, ⊎_elim, sym, refl, ap, append_assoc, append-nil, ◌∙◌, arith}
-use Rattle.std.proofs.lemmas.List.{drop_more, drop_all, take_more, take_all}
+use Rattle.std.proofs.Common.{◌≡◌, ℕ, suc, ◌+◌, ◌<◌, ◌≤◌, true, false, cond, eqb, List, [], ◌∷◌, length, take, drop, Some, None, Option, MatchOption, not, ⊎_elim, sym, refl, ap, ◌∙◌, arith}
 use Rattle.std.specs.List.{position, position_or_len, slice_split, onto_first}
-use Rattle.std.proofs.lemmas.Bool.{eq-eqb, ne_eqb, lt-ltb, le-ltb, cases_lt}
+use Rattle.std.proofs.lemmas.Bool.{lt-ltb, le-ltb, cases_lt}
 use Rattle.listing.specs.Pieces.{up_to, past, pieces, on_first}
-
-pub up_to_more : (s : ℕ) (xs : List ℕ) (i : ℕ) → i < length xs → get_or xs i 0 ≢ s → take (i + 1) xs ++ up_to s (drop (i + 1) xs) ≡ take i xs ++ up_to s (drop i xs)
-up_to_more s xs i l n = let q = ne_eqb _ _ n in rw (drop_more xs i 0 l, q, take_more xs i 0 l, append_assoc)
-
-pub past_more : (s : ℕ) (xs : List ℕ) (i : ℕ) → i < length xs → get_or xs i 0 ≢ s → past s (drop (i + 1) xs) ≡ past s (drop i xs)
-past_more s xs i l n = let q = ne_eqb _ _ n in rw (drop_more xs i 0 l, q)
-
-pub up_to_stop : (s : ℕ) (xs : List ℕ) (i : ℕ) → i < length xs → get_or xs i 0 ≡ s → take i xs ≡ take i xs ++ up_to s (drop i xs)
-up_to_stop s xs i l e = let q = eq-eqb _ _ e in rw (drop_more xs i 0 l, q, append-nil)
-
-pub past_stop : (s : ℕ) (xs : List ℕ) (i : ℕ) → i < length xs → get_or xs i 0 ≡ s → Some (drop (i + 1) xs) ≡ past s (drop i xs)
-past_stop s xs i l e = let q = eq-eqb _ _ e in rw (drop_more xs i 0 l, q)
-
-pub up_to_all : (s : ℕ) (xs : List ℕ) (i : ℕ) → length xs ≤ i → xs ≡ take i xs ++ up_to s (drop i xs)
-up_to_all s xs i l = rw (drop_all i xs l, append-nil, take_all i xs l)
-
-pub past_all : (s : ℕ) (xs : List ℕ) (i : ℕ) → length xs ≤ i → None ≡ past s (drop i xs)
-past_all s xs i l = rw (drop_all i xs l)
 
 abbrev pub pieces_of : ℕ → Option (List ℕ) → List (List ℕ)
 pieces_of s None = []
@@ -39,13 +20,6 @@ pieces_more s xs p ys e f = rw (pieces_step s xs, sym e, sym f)
 
 pub pieces_last : (s : ℕ) (xs p : List ℕ) → p ≡ up_to s xs → None ≡ past s xs → pieces s xs ≡ p ∷ []
 pieces_last s xs p e f = rw (pieces_step s xs, sym e, sym f)
-
-pub past_shorter : (s : ℕ) (xs ys : List ℕ) → past s xs ≡ Some ys → length ys < length xs
-past_shorter s [] ys e = let z : ◌≡◌ {A = ℕ} 0 1 = cc in omega arith
-past_shorter s (b ∷ bs) ys e =
-    elim (eqb b s) as (λ v. cond v (Some bs) (past s bs) ≡ Some ys → length ys < length (b ∷ bs))
-    [ true ↦ (λ q. let z : bs ≡ ys = cc in rw (sym z) (omega arith)) | false ↦ (λ q. let h = past_shorter s bs ys q in omega arith) ]
-    e
 
 pub up_to_none : (s : ℕ) (xs : List ℕ) → past s xs ≡ None → up_to s xs ≡ xs
 up_to_none s [] e = refl

@@ -1,7 +1,6 @@
 pub mod Digits
 pub mod Cuts
 pub mod Surveys
-pub mod Spelled
 pub mod Words
 pub mod Values
 pub mod Stepping

@@ -1,14 +1,12 @@
 -- Looking through a list of numbers, piece by piece.
-use Rattle.std.proofs.Common.{◌≡◌, ℕ, ◌+◌, ◌-◌, ◌^◌, ◌<◌, ◌≤◌, min, max, Bool, true, false, cond, ◌&&◌, leb, List, [], ◌∷◌, map, length, get_or, drop, Ok, Err, Result, sym, refl, ap, ◌∙◌, arith}
-use Rattle.std.proofs.lemmas.List.{length-map, drop_more, drop_all}
-use Rattle.std.proofs.lemmas.Bool.{lt-leb, le-leb, and_right, and_from}
+use Rattle.std.proofs.Common.{◌≡◌, ℕ, ◌+◌, ◌<◌, ◌≤◌, min, max, Bool, true, false, cond, List, [], ◌∷◌, map, length, get_or, drop, Ok, Err, Result, sym, refl, ap, ◌∙◌, arith}
+use Rattle.std.proofs.lemmas.List.{drop_more, drop_all}
 use Rattle.refusal.specs.declared.Refusal.{Refusal}
-use Rattle.refusal.specs.declared.Refusal.TheVariants.{Form, Range, Stranger}
-use Rattle.listing.specs.Lines.{counted}
+use Rattle.refusal.specs.declared.Refusal.TheVariants.{Form}
 use Rattle.listing.specs.declared.list.Survey.{Survey}
 use Rattle.listing.specs.Numeral.{numeral, value_of}
-use Rattle.listing.specs.Pieces.{pieces, listed, all_numerals, numerals, numbers, largest}
-use Rattle.listing.specs.Survey.{surveyed, NumbersIn}
+use Rattle.listing.specs.Pieces.{pieces, listed, all_numerals, largest}
+use Rattle.listing.specs.Survey.{surveyed}
 
 abbrev pub top : ℕ
 top = 4294967295
@@ -66,45 +64,3 @@ survey_all s ps i l =
 pub listed_some : (v : List ℕ) → 0 < length v → surveyed (pieces 44 v) ≡ surveyed (listed v)
 listed_some [] l = absurd (omega arith)
 listed_some (b ∷ bs) l = refl
-
--- what a survey says of the list
-survey_facts : (v : List ℕ) (s : Survey) → Ok s ≡ surveyed (listed v) → (numerals v ≡ true) × (s.count ≡ length (numbers v)) × (s.largest ≡ min (largest (numbers v)) top)
-survey_facts v s e =
-    let h = ok_cond (numerals v) (record { count = length (listed v); largest = min (largest (numbers v)) top }) s e in
-    (h.0, ap (λ t. t.count) h.1 ∙ sym (length-map (listed v) value_of), ap (λ t. t.largest) h.1)
-
-pub count_large : (b m o : ℕ) (v : List ℕ) (s : Survey) → Ok s ≡ surveyed (listed v) → 65535 < s.largest → Err Range ≡ counted b m o v
-count_large b m o v s e l =
-    let h = survey_facts v s e in
-    let k : 65535 < largest (numbers v) = omega arith in
-    let q = lt-leb (largest (numbers v)) 65535 k in
-    rw (h.0, q)
-
-pub count_many : (b m o n : ℕ) (v : List ℕ) (s : Survey) → Ok s ≡ surveyed (listed v) → n ≡ min (b + s.count) (2 ^ 64 - 1) → m < n → Err Range ≡ counted b m o v
-count_many b m o n v s e f l =
-    let h = survey_facts v s e in
-    let k : m < b + length (numbers v) = omega arith in
-    let q = and_right (leb (largest (numbers v)) 65535) _ (lt-leb (b + length (numbers v)) m k) in
-    rw (h.0, q)
-
-count_bounded : (b m n : ℕ) (v : List ℕ) (s : Survey) → Ok s ≡ surveyed (listed v) → s.largest ≤ 65535 → n ≡ min (b + s.count) (2 ^ 64 - 1) → n ≤ m → m < 2 ^ 32
-    → (leb (largest (numbers v)) 65535 && leb (b + length (numbers v)) m) ≡ true
-count_bounded b m n v s e f g l w =
-    let h = survey_facts v s e in
-    let a : largest (numbers v) ≤ 65535 = omega (arith, h.2) in
-    let d : b + length (numbers v) ≤ m = omega (arith, h.1) in
-    and_from _ _ (le-leb _ _ a) (le-leb _ _ d)
-
-pub count_stranger : (b m o n : ℕ) (v : List ℕ) (s : Survey) → Ok s ≡ surveyed (listed v) → s.largest ≤ 65535 → n ≡ min (b + s.count) (2 ^ 64 - 1) → n ≤ m → m < 2 ^ 32
-    → o < s.largest → Err Stranger ≡ counted b m o v
-count_stranger b m o n v s e f g l w t =
-    let h = survey_facts v s e in
-    let k : o < largest (numbers v) = omega (arith, h.2) in
-    rw (h.0, count_bounded b m n v s e f g l w, lt-leb (largest (numbers v)) o k)
-
-pub count_right : (b m o n : ℕ) (v : List ℕ) (s : Survey) → Ok s ≡ surveyed (listed v) → s.largest ≤ 65535 → n ≡ min (b + s.count) (2 ^ 64 - 1) → n ≤ m → m < 2 ^ 32
-    → s.largest ≤ o → (Ok s.count ≡ counted b m o v) × (NumbersIn v s.count × (b + s.count ≤ m))
-count_right b m o n v s e f g l w t =
-    let h = survey_facts v s e in
-    let k : largest (numbers v) ≤ o = omega (arith, h.2) in
-    (rw (h.0, count_bounded b m n v s e f g l w, le-leb (largest (numbers v)) o k, h.1), (record { formed = h.0; small = omega (arith, h.2); counted = h.1 }, omega arith))

@@ -1,4 +1,4 @@
-use Rattle.std.proofs.Common.{◌∙◌, arith}
+use Rattle.std.proofs.Common.{arith}
 use Rattle.std.proofs.lemmas.Result.{err_from_is_err_and}
 use Rattle.listing.proofs.Progress.{none_so_far, one_more_so_far, stop_so_far, all_so_far}
 use Rattle.listing.proofs.check.check_objects.Goals as goal

@@ -1,9 +1,9 @@
-use Rattle.std.proofs.Common.{◌≡◌, ℕ, ◌+◌, ◌-◌, ◌≤◌, length, sym, refl, ap, ◌∙◌, arith, rules}
+use Rattle.std.proofs.Common.{◌≡◌, ℕ, ◌+◌, ◌-◌, sym, refl, ap, ◌∙◌, arith}
 use Rattle.heap.specs.Handed.{tables_of}
 use Rattle.listing.specs.Pieces.{numbers}
 use Rattle.listing.specs.Filling.{with_object}
 use Rattle.listing.specs.Rules.{Objects}
-use Rattle.listing.proofs.Progress.{ObjectsSoFar, none_so_far, one_more_so_far, stop_so_far}
+use Rattle.listing.proofs.Progress.{none_so_far, one_more_so_far, stop_so_far}
 use Rattle.listing.proofs.Stepping.{object_read}
 use Rattle.listing.proofs.Fewer.{references_within}
 use Rattle.listing.proofs.Tables.{filled_more, length_filled, length_entries_filled}

@@ -1,4 +1,4 @@
-use Rattle.std.proofs.Common.{◌≡◌, ◌+◌, ◌*◌, length, sym, ap, ◌∙◌, arith, rules}
+use Rattle.std.proofs.Common.{◌≡◌, ◌+◌, ◌*◌, length, sym, ap, ◌∙◌, arith}
 use Rattle.heap.specs.Handed.{tables_of}
 use Rattle.listing.specs.Pieces.{numbers}
 use Rattle.listing.specs.Lines.{read_roots}

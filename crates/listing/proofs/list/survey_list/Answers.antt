@@ -1,4 +1,4 @@
-use Rattle.std.proofs.Common.{◌≡◌, ◌+◌, ◌<◌, ℕ, max, List, [], ◌∷◌, ◌++◌, eqb, length, drop, refl, ap, ◌∙◌, rules, arith}
+use Rattle.std.proofs.Common.{◌+◌, ◌<◌, ℕ, max, List, [], ◌∷◌, ◌++◌, eqb, length, drop, refl, ap, ◌∙◌, rules, arith}
 use Rattle.std.specs.List.{slice_split}
 use Rattle.std.proofs.iter.Serving.{serving}
 use Rattle.std.proofs.lemmas.Iterator.Splits.{YieldsList-from_slice_split}

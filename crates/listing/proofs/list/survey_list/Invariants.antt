@@ -1,4 +1,4 @@
-use Rattle.std.proofs.Common.{◌≡◌, ◌+◌, ◌≤◌, eqb, length, drop}
+use Rattle.std.proofs.Common.{◌≡◌, eqb, length, drop}
 use Rattle.std.specs.List.{slice_split}
 use Rattle.listing.specs.Pieces.{pieces}
 use Rattle.listing.specs.Survey.{surveyed}

@@ -1,5 +1,4 @@
-use Rattle.std.proofs.Common.{ap, ◌∙◌, rules}
-use Rattle.listing.specs.Judge.{on_line}
+use Rattle.std.proofs.Common.{rules}
 use Rattle.listing.proofs.Words.{named_is}
 use Rattle.listing.proofs.value.Value.rule.Goals as goal
 
