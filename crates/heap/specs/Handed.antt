@@ -1,7 +1,15 @@
 -- What a checked heap stands for. Assumes nothing.
 use Rattle.heap.specs.declared.checked.CheckedHeap.{CheckedHeap}
 use Rattle.heap.specs.Heap.{Heap}
-use Rattle.heap.specs.Tables.{Tables, heap_in}
+use Rattle.heap.specs.Tables.{Lenders, Tables, heap_in}
+
+abbrev pub lenders_of : CheckedHeap → Lenders
+lenders_of h =
+    record {
+      object_table = h.object_table.ghost_name;
+      reference_table = h.reference_table.ghost_name;
+      root_table = h.root_table.ghost_name;
+    }
 
 abbrev pub tables_of : CheckedHeap → Tables
 tables_of h =
@@ -14,6 +22,7 @@ tables_of h =
       object_table = h.object_table.now;
       reference_table = h.reference_table.now;
       root_table = h.root_table.now;
+      lenders = lenders_of h;
     }
 
 abbrev pub heap_of : CheckedHeap → Heap

@@ -22,7 +22,13 @@ object_in references e = record { at = e.at; len = e.len; refs = take e.count (d
 abbrev pub objects_in : List ℕ → List ObjectEntry → List Object
 objects_in references es = map (object_in references) es
 
--- The numbers of a checked heap and what its tables hold, those places too that it does not use.
+-- Which stretches a heap's tables are lent from: the name of each loan.
+pub record Lenders : Type 0 where
+  pub object_table : ℕ
+  pub reference_table : ℕ
+  pub root_table : ℕ
+
+-- The numbers of a checked heap and what its tables hold, those places too that it does not use, and whose they are.
 pub record Tables : Type 0 where
   pub cells : ℕ
   pub width : ℕ
@@ -32,6 +38,7 @@ pub record Tables : Type 0 where
   pub object_table : List ObjectEntry
   pub reference_table : List ℕ
   pub root_table : List ℕ
+  pub lenders : Lenders
 
 -- the heap that they stand for
 abbrev pub heap_in : Tables → Heap
@@ -65,11 +72,12 @@ filled h t =
       object_table = entries_from 0 h.objects ++ drop (length h.objects) t.object_table;
       reference_table = references_of h.objects ++ drop (references_in h.objects) t.reference_table;
       root_table = h.roots ++ drop (length h.roots) t.root_table;
+      lenders = t.lenders;
     }
 
 -- the empty heap: one cell, width 1, nothing in it
-abbrev pub empty_over : List ObjectEntry → List ℕ → List ℕ → Tables
-empty_over entries references roots =
+abbrev pub empty_over : List ObjectEntry → List ℕ → List ℕ → Lenders → Tables
+empty_over entries references roots lenders =
     record {
       cells = 1;
       width = 1;
@@ -79,4 +87,5 @@ empty_over entries references roots =
       object_table = entries;
       reference_table = references;
       root_table = roots;
+      lenders = lenders;
     }

@@ -13,7 +13,7 @@ impl<'a> CheckedHeap<'a> {
         reference_table: &'a mut [u16],
         root_table: &'a mut [u16],
     ) -> CheckedHeap<'a>
-        ensures { tables_of result ≡ empty_over object_table.old reference_table.old root_table.old }
+        ensures { tables_of result ≡ empty_over object_table.old reference_table.old root_table.old (record { object_table = object_table.entry.ghost_name; reference_table = reference_table.entry.ghost_name; root_table = root_table.entry.ghost_name }) }
     {
         CheckedHeap {
             cells: 1,

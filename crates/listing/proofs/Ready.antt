@@ -16,7 +16,7 @@ use Rattle.listing.proofs.Accepting.{exact}
 
 -- the empty heap over the same tables
 abbrev pub emptied : Tables → Tables
-emptied t = empty_over t.object_table t.reference_table t.root_table
+emptied t = empty_over t.object_table t.reference_table t.root_table t.lenders
 
 room_parts : (n : Totals) (t : Tables) → true ≡ room_for n t
     → (n.header.objects ≤ length t.object_table) × (n.references ≤ length t.reference_table) × (n.roots ≤ length t.root_table)

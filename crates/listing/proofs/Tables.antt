@@ -62,6 +62,7 @@ both entries references t =
       object_table = entries;
       reference_table = references;
       root_table = t.root_table;
+      lenders = t.lenders;
     }
 
 -- the tables with one more object

@@ -1,6 +1,5 @@
 -- What filling the tables of a heap changes. Assumes nothing.
 use Rattle.std.specs.Prelude.{◌≡◌, ℕ, ◌+◌, ◌*◌, ◌≤◌, List, [], ◌++◌, length, take, drop, Ok, slice_set}
-use Rattle.heap.specs.declared.checked.CheckedHeap.{CheckedHeap}
 use Rattle.heap.specs.declared.entry.ObjectEntry.{ObjectEntry}
 use Rattle.heap.specs.Heap.{Heap, Object, references_in}
 use Rattle.heap.specs.Tables.{Tables, entries_from, references_of, filled}
@@ -8,11 +7,6 @@ use Rattle.listing.specs.declared.settings.Header.{Header}
 use Rattle.listing.specs.declared.settings.Settings.{Settings}
 use Rattle.listing.specs.Rules.{Objects}
 use Rattle.listing.specs.Judge.{judge_text}
-
--- two checked heaps lie over the same lent tables
-abbrev pub SameLenders : CheckedHeap → CheckedHeap → Type 0
-SameLenders h h' =
-    (h'.object_table.ghost_name ≡ h.object_table.ghost_name) × (h'.reference_table.ghost_name ≡ h.reference_table.ghost_name) × (h'.root_table.ghost_name ≡ h.root_table.ghost_name)
 
 -- the tables with one more object: its entry at place i, its references where the entry says
 abbrev pub with_object : ℕ → ObjectEntry → List ℕ → Tables → Tables
@@ -26,6 +20,7 @@ with_object i entry refs t =
       object_table = slice_set t.object_table i entry;
       reference_table = take entry.first t.reference_table ++ refs ++ drop (entry.first + entry.count) t.reference_table;
       root_table = t.root_table;
+      lenders = t.lenders;
     }
 
 -- the tables with so many roots
@@ -40,6 +35,7 @@ with_roots count roots t =
       object_table = t.object_table;
       reference_table = t.reference_table;
       root_table = roots ++ drop count t.root_table;
+      lenders = t.lenders;
     }
 
 -- the tables once objects are filled in
@@ -54,6 +50,7 @@ with_objects os t =
       object_table = entries_from 0 os ++ drop (length os) t.object_table;
       reference_table = references_of os ++ drop (references_in os) t.reference_table;
       root_table = t.root_table;
+      lenders = t.lenders;
     }
 
 -- the tables once a heap is filled in, and its numbers are not set yet
@@ -68,6 +65,7 @@ with_heap h t =
       object_table = (filled h t).object_table;
       reference_table = (filled h t).reference_table;
       root_table = (filled h t).root_table;
+      lenders = t.lenders;
     }
 
 -- the lines of an accepted listing from line 6 on, and room for its heap

@@ -39,4 +39,5 @@ with_totals n t =
       object_table = t.object_table;
       reference_table = t.reference_table;
       root_table = t.root_table;
+      lenders = t.lenders;
     }

@@ -6,7 +6,7 @@ ghost use Rattle.listing.specs.Judge.{judge_text};
 ghost use Rattle.listing.specs.declared.settings.Settings.{Settings};
 ghost use Rattle.listing.specs.Pieces.{numbers, number_in};
 ghost use Rattle.listing.specs.Survey.{NumbersIn};
-ghost use Rattle.listing.specs.Filling.{SameLenders, with_object, with_roots, with_heap, BodyFits, ObjectsFilled};
+ghost use Rattle.listing.specs.Filling.{with_object, with_roots, with_heap, BodyFits, ObjectsFilled};
 
 use crate::lines::Lines;
 use crate::number::number;
@@ -40,8 +40,7 @@ fn fill_object(object: ObjectLines<'_>, i: usize, first: usize, heap: &mut Check
     requires listed { NumbersIn object.refs.text.now object.refs.count }
     requires room { (i < length heap.old.object_table.now) × (first + object.refs.count ≤ length heap.old.reference_table.now) × (first + object.refs.count ≤ 262144) }
     requires empty { (heap.old.objects ≡ 0) × (heap.old.references ≡ 0) }
-    ensures tables { tables_of heap.new ≡ with_object i (record { at = object.entry.at; len = object.entry.len; first = first; count = object.entry.refs.count }) (numbers object.entry.refs.text.now) (tables_of heap.old) }
-    ensures lenders { SameLenders heap.old heap.new }
+    ensures { tables_of heap.new ≡ with_object i (record { at = object.entry.at; len = object.entry.len; first = first; count = object.entry.refs.count }) (numbers object.entry.refs.text.now) (tables_of heap.old) }
 {
     let behind = first + object.refs.count;
     fill_numbers(object.refs.text, &mut heap.reference_table[first..behind]);
@@ -62,8 +61,7 @@ fn fill_objects<'t>(
     requires line { lines.number ≡ 6 }
     requires fits { BodyFits header lines.text.now (tables_of heap.old) }
     requires empty { (heap.old.objects ≡ 0) × (heap.old.references ≡ 0) }
-    ensures filled { MatchResult result (λ rest. ObjectsFilled header lines.entry.text.now (tables_of heap.old) (tables_of heap.new) rest.text.now × (rest.number ≡ 6 + 3 * header.objects)) (λ _. ⊥) }
-    ensures lenders { SameLenders heap.old heap.new }
+    ensures { MatchResult result (λ rest. ObjectsFilled header lines.entry.text.now (tables_of heap.old) (tables_of heap.new) rest.text.now × (rest.number ≡ 6 + 3 * header.objects)) (λ _. ⊥) }
 {
     let mut objects = ObjectReader::new(header, lines);
     for i in 0..header.objects {
@@ -79,8 +77,7 @@ fn fill_roots(roots: NumberList<'_>, heap: &mut CheckedHeap)
     requires listed { NumbersIn roots.text.now roots.count }
     requires room { roots.count ≤ length heap.old.root_table.now }
     requires empty { heap.old.roots ≡ 0 }
-    ensures tables { tables_of heap.new ≡ with_roots roots.entry.count (numbers roots.entry.text.now) (tables_of heap.old) }
-    ensures lenders { SameLenders heap.old heap.new }
+    ensures { tables_of heap.new ≡ with_roots roots.entry.count (numbers roots.entry.text.now) (tables_of heap.old) }
 {
     fill_numbers(roots.text, &mut heap.root_table[..roots.count]);
 }
@@ -94,8 +91,7 @@ pub(crate) fn fill_tables(
     requires line { lines.number ≡ 6 }
     requires fits { BodyFits header lines.text.now (tables_of heap.old) }
     requires empty { (heap.old.objects ≡ 0) × (heap.old.references ≡ 0) × (heap.old.roots ≡ 0) }
-    ensures filled { MatchResult result (λ _. (x : Heap × Settings) → judge_text (Objects header [] header.objects) 6 lines.entry.text.now ≡ Ok x → tables_of heap.new ≡ with_heap x.0 (tables_of heap.old)) (λ _. ⊥) }
-    ensures lenders { SameLenders heap.old heap.new }
+    ensures { MatchResult result (λ _. (x : Heap × Settings) → judge_text (Objects header [] header.objects) 6 lines.entry.text.now ≡ Ok x → tables_of heap.new ≡ with_heap x.0 (tables_of heap.old)) (λ _. ⊥) }
 {
     let mut rest = fill_objects(header, lines, heap)?;
     let roots = rest.roots(header.objects)?;

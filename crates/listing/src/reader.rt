@@ -1,10 +1,9 @@
 ghost use Rattle.std.specs.Prelude.{◌≡◌, ℕ, Ok, Err};
 ghost use Rattle.heap.specs.Heap.{Heap};
-ghost use Rattle.heap.specs.Handed.{tables_of, heap_of};
+ghost use Rattle.heap.specs.Handed.{tables_of, lenders_of, heap_of};
 ghost use Rattle.heap.specs.Kept.{Kept};
 ghost use Rattle.heap.specs.Tables.{empty_over};
 ghost use Rattle.listing.specs.Judge.{judge};
-ghost use Rattle.listing.specs.Filling.{SameLenders};
 ghost use Rattle.listing.specs.Laws.{Fitting, RefusedFor};
 ghost use Rattle.listing.specs.Reader.{room_for, with_totals, answered, left_in};
 
@@ -16,8 +15,7 @@ use refusal::{Fault, Refusal};
 
 // Makes the heap the empty one, which is lawful whatever its tables hold.
 fn clear(heap: &mut CheckedHeap)
-    ensures tables { tables_of heap.new ≡ empty_over heap.old.object_table.now heap.old.reference_table.now heap.old.root_table.now }
-    ensures lenders { SameLenders heap.old heap.new }
+    ensures { tables_of heap.new ≡ empty_over heap.old.object_table.now heap.old.reference_table.now heap.old.root_table.now (lenders_of heap.old) }
 {
     heap.objects = 0;
     heap.references = 0;
@@ -38,8 +36,7 @@ fn has_room(heap: &CheckedHeap, totals: Totals) -> bool
 // Sets the numbers of the heap, last of all: its tables hold it already.
 fn set_numbers(heap: &mut CheckedHeap, totals: Totals)
     requires { Kept (with_totals totals (tables_of heap.old)) }
-    ensures tables { tables_of heap.new ≡ with_totals totals (tables_of heap.old) }
-    ensures lenders { SameLenders heap.old heap.new }
+    ensures { tables_of heap.new ≡ with_totals totals (tables_of heap.old) }
 {
     heap.cells = usize::from(totals.header.cells);
     heap.width = usize::from(totals.header.width);
@@ -53,7 +50,7 @@ fn set_numbers(heap: &mut CheckedHeap, totals: Totals)
 pub fn read(text: &[u8], heap: &mut CheckedHeap) -> Result<Settings, Fault>
     ensures answer { result ≡ answered (judge text.now) (tables_of heap.old) }
     ensures tables { tables_of heap.new ≡ left_in (judge text.now) (tables_of heap.old) }
-    ensures lenders { SameLenders heap.old heap.new }
+    ensures lenders { lenders_of heap.new ≡ lenders_of heap.old }
     ensures accepted { (s : Settings) → result ≡ Ok s → Fitting text.now (heap_of heap.new) s (tables_of heap.old) }
     ensures accepts { (h : Heap) (s : Settings) → Fitting text.now h s (tables_of heap.old) → (result ≡ Ok s) × (heap_of heap.new ≡ h) }
     ensures refused { (f : Fault) → result ≡ Err f → RefusedFor text.now (tables_of heap.old) f }

@@ -10,10 +10,10 @@ use Rattle.listing.proofs.Tables.{filled_more, length_filled, length_entries_fil
 use Rattle.listing.proofs.fill.fill_objects.Goals as goal
 
 pub loop-i-init : goal.loop-i-init
-loop-i-init c = (none_so_far c.args.header c.args.lines c.new-objects.result c.requires.line c.new-objects.ensures.parts c.new-objects.ensures.start, refl, (refl, refl, refl))
+loop-i-init c = (none_so_far c.args.header c.args.lines c.new-objects.result c.requires.line c.new-objects.ensures.parts c.new-objects.ensures.start, refl)
 
-pub returns-in_err-object-clause-filled : goal.returns-in_err-object-clause-filled
-returns-in_err-object-clause-filled c =
+pub returns-in_err-object : goal.returns-in_err-object
+returns-in_err-object c =
     let stop = stop_so_far c.args.header c.args.lines.text.now c.loop-i.i c.loop-i.objects c.in_err-object.field-0.0 c.loop-i.invariant.0 c.loop-i-test.true c.in_err-object.ensures.value in
     let right = c.requires.fits.judged in
     let z : ◌≡◌ {A = ℕ} 0 1 = cc in
@@ -46,13 +46,10 @@ pub loop-i-preserved : goal.loop-i-preserved
 loop-i-preserved c =
     let s = c.loop-i.invariant.0 in
     let o = c.in_ok-object.object in
-    let e = c.in_ok-object.ensures in
-    let before = c.loop-i.invariant.2 in
-    let after = c.fill_object.ensures.lenders in (
+    let e = c.in_ok-object.ensures in (
       one_more_so_far c.args.header c.args.lines.text.now c.loop-i.i c.loop-i.objects c.next_object.new.self o s c.loop-i-test.true e.value e.after e.counts.0.counted e.counts.1,
-      c.fill_object.ensures.tables
+      c.fill_object.ensures
           ∙ ap (λ k. with_object k (record { at = o.at; len = o.len; first = c.loop-i.objects.references; count = o.refs.count }) (numbers o.refs.text.now) (tables_of c.loop-i.heap)) c.from.ensures
           ∙ filled_more (tables_of c.args.heap.now) (tables_of c.loop-i.heap) s.done (object_read (o.at, o.len, (o.refs.count, o.refs.text.now))) c.loop-i.i
           c.loop-i.objects.references o.refs.count c.loop-i.invariant.1 s.long (omega (arith, c.requires.fits.objects)) s.counted e.counts.0.counted,
-      (after.0 ∙ before.0, after.1 ∙ before.1, after.2 ∙ before.2),
     )

@@ -1,6 +1,6 @@
 use Rattle.std.proofs.Common.{◌≡◌}
 use Rattle.heap.specs.Handed.{tables_of}
-use Rattle.listing.specs.Filling.{SameLenders, with_objects}
+use Rattle.listing.specs.Filling.{with_objects}
 use Rattle.listing.proofs.Progress.{ObjectsSoFar}
 use Rattle.listing.proofs.fill.fill_objects.Given as goal
 
@@ -8,4 +8,3 @@ abbrev pub invariant-loop-i : goal.invariant-loop-i
 invariant-loop-i l =
     (s : ObjectsSoFar l.fn.header l.fn.lines.text.now l.i l.objects)
     × (tables_of l.heap ≡ with_objects s.done (tables_of l.initial.heap))
-    × SameLenders l.initial.heap l.heap

@@ -6,16 +6,16 @@ use Rattle.listing.proofs.Checked.{same_heap, no_root_fault}
 use Rattle.listing.proofs.Tables.{roots_filled}
 use Rattle.listing.proofs.fill.fill_tables.Goals as goal
 
-pub returns-in_err-roots-clause-filled : goal.returns-in_err-roots-clause-filled
-returns-in_err-roots-clause-filled c =
-    let f = c.in_ok-rest.ensures.filled in
+pub returns-in_err-roots : goal.returns-in_err-roots
+returns-in_err-roots c =
+    let f = c.in_ok-rest.ensures in
     let at = ap (λ n. read_roots n c.args.header.objects c.in_ok-rest.rest.text.now) (sym f.1) in
     absurd (no_root_fault c.args.header f.0.done (6 + 3 * c.args.header.objects) c.in_ok-rest.rest.text.now c.requires.fits.accepted c.in_err-roots.field-0.0
     (sym f.0.judged ∙ c.requires.fits.judged) (at ∙ c.in_err-roots.ensures.value))
 
 pub fill_roots-requires : goal.fill_roots-requires
 fill_roots-requires c =
-    let f = c.in_ok-rest.ensures.filled in
+    let f = c.in_ok-rest.ensures in
     let r = c.in_ok-roots.roots in
     let at = ap (λ n. read_roots n c.args.header.objects c.in_ok-rest.rest.text.now) (sym f.1) in
     let s = same_heap c.args.header f.0.done (6 + 3 * c.args.header.objects) r.count c.in_ok-rest.rest.text.now r.text.now c.roots.new.self.text.now
@@ -30,16 +30,10 @@ fill_roots-requires c =
 
 pub returns : goal.returns
 returns c =
-    let f = c.in_ok-rest.ensures.filled in
+    let f = c.in_ok-rest.ensures in
     let r = c.in_ok-roots.roots in
     let at = ap (λ n. read_roots n c.args.header.objects c.in_ok-rest.rest.text.now) (sym f.1) in
-    let before = c.in_ok-rest.ensures.lenders in
-    let after = c.fill_roots.ensures.lenders in
-    record {
-      filled = λ x e.
-          c.fill_roots.ensures.tables
-          ∙ roots_filled (tables_of c.args.heap.now) (tables_of c.fill_objects.new.heap) c.args.header f.0.done (numbers r.text.now) r.count x f.0.tables c.in_ok-roots.ensures.counts.0.counted
-          (same_heap c.args.header f.0.done (6 + 3 * c.args.header.objects) r.count c.in_ok-rest.rest.text.now r.text.now c.roots.new.self.text.now x
-          (sym f.0.judged ∙ e) (at ∙ c.in_ok-roots.ensures.value));
-      lenders = (after.0 ∙ before.0, after.1 ∙ before.1, after.2 ∙ before.2);
-    }
+    λ x e. c.fill_roots.ensures
+    ∙ roots_filled (tables_of c.args.heap.now) (tables_of c.fill_objects.new.heap) c.args.header f.0.done (numbers r.text.now) r.count x f.0.tables c.in_ok-roots.ensures.counts.0.counted
+    (same_heap c.args.header f.0.done (6 + 3 * c.args.header.objects) r.count c.in_ok-rest.rest.text.now r.text.now c.roots.new.self.text.now x
+    (sym f.0.judged ∙ e) (at ∙ c.in_ok-roots.ensures.value))

@@ -14,7 +14,7 @@ use Rattle.listing.proofs.reader.read.Goals as goal
 pub fill_tables-requires : goal.fill_tables-requires
 fill_tables-requires c =
     let a = c.in_ok-totals.ensures.value in
-    let e = c.clear.ensures.tables in
+    let e = c.clear.ensures in
     record {
       line = c.in_ok-totals.ensures.number;
       fits = body_fits c.args.text.now c.in_ok-totals.body.text.now c.in_ok-totals.totals (tables_of c.args.heap.now) (tables_of c.clear.new.heap) a
@@ -26,7 +26,7 @@ pub set_numbers-requires : goal.set_numbers-requires
 set_numbers-requires c =
     let a = c.in_ok-totals.ensures.value in
     numbers_kept c.args.text.now c.in_ok-totals.body.text.now c.in_ok-totals.totals (tables_of c.args.heap.now) (tables_of c.clear.new.heap)
-    (tables_of c.fill_tables.new.heap) a c.clear.ensures.tables (c.in_ok-fill_tables.ensures.filled a.heap a.behind)
+    (tables_of c.fill_tables.new.heap) a c.clear.ensures (c.in_ok-fill_tables.ensures a.heap a.behind)
 
 pub returns-in_err-totals : goal.returns-in_err-totals
 returns-in_err-totals c =
@@ -39,7 +39,7 @@ returns-in_err-totals c =
     record {
       answer = answer;
       tables = tables;
-      lenders = (refl, refl, refl);
+      lenders = refl;
       accepted = λ s q. accepted_fits text t t c.from_residual.result s answer tables q;
       accepts = λ h s q. fitting_accepted text t t c.from_residual.result h s answer tables q;
       refused = λ f q. refused_for text t c.from_residual.result f answer q;
@@ -55,7 +55,7 @@ returns-then-not-has_room c =
     record {
       answer = s.0;
       tables = s.1;
-      lenders = (refl, refl, refl);
+      lenders = refl;
       accepted = λ s' q. accepted_fits text t t (Err (fault Memory 0)) s' s.0 s.1 q;
       accepts = λ h s' q. fitting_accepted text t t (Err (fault Memory 0)) h s' s.0 s.1 q;
       refused = λ f q. refused_for text t (Err (fault Memory 0)) f s.0 q;
@@ -70,17 +70,14 @@ returns c =
     let n = c.in_ok-totals.totals in
     let a = c.in_ok-totals.ensures.value in
     let r : Result Settings Fault = Ok (record { markers = c.from.result; share = n.header.share }) in
-    let f = totals_filled text c.in_ok-totals.body.text.now n t (tables_of c.clear.new.heap) (tables_of c.fill_tables.new.heap) a c.clear.ensures.tables
-    (c.in_ok-fill_tables.ensures.filled a.heap a.behind) in
-    let s = full_answer text c.in_ok-totals.body.text.now n t t' a c.if-not-has_room.ensures (c.set_numbers.ensures.tables ∙ f) in
+    let f = totals_filled text c.in_ok-totals.body.text.now n t (tables_of c.clear.new.heap) (tables_of c.fill_tables.new.heap) a c.clear.ensures
+    (c.in_ok-fill_tables.ensures a.heap a.behind) in
+    let s = full_answer text c.in_ok-totals.body.text.now n t t' a c.if-not-has_room.ensures (c.set_numbers.ensures ∙ f) in
     let answer : r ≡ answered (judge text) t = ap (λ m. Ok (record { markers = m; share = n.header.share })) c.from.ensures ∙ s.0 in
-    let x = c.clear.ensures.lenders in
-    let y = c.in_ok-fill_tables.ensures.lenders in
-    let z = c.set_numbers.ensures.lenders in
     record {
       answer = answer;
       tables = s.1;
-      lenders = (z.0 ∙ y.0 ∙ x.0, z.1 ∙ y.1 ∙ x.1, z.2 ∙ y.2 ∙ x.2);
+      lenders = ap (λ u. u.lenders) (c.set_numbers.ensures ∙ f);
       accepted = λ s' q. accepted_fits text t t' r s' answer s.1 q;
       accepts = λ h s' q. fitting_accepted text t t' r h s' answer s.1 q;
       refused = λ f q. refused_for text t r f answer q;
