@@ -1,8 +1,8 @@
 // What `check_listing` prints of a text: the sheet of an accepted listing, or its refusal.
 #![tactic(auto)]
 
+mod judge;
 mod texts;
-mod verdict;
 
-pub use texts::{fault_text, help_text, sheet_text};
-pub use verdict::{Verdict, judge_listing, longest_listing};
+pub use judge::{JudgeError, judge_listing, longest_listing};
+pub use texts::{Sheet, help_text};

@@ -1,12 +1,10 @@
-ghost use Rattle.std.specs.Prelude.{◌≡◌, ◌++◌, IfOk, string_bytes, codes, decimal, OnOk};
+ghost use Rattle.std.specs.Prelude.{◌≡◌, Some};
 ghost use Rattle.heap.specs.Handed.{heap_of};
-ghost use Rattle.listing.specs.Rules.{word_of};
-ghost use Rattle.sheet.specs.Texts.{pair, help_text, fault_text, sheet_text};
+ghost use Rattle.sheet.specs.Texts.{help_text};
 
 use heap::CheckedHeap;
-use listing::Settings;
-use refusal::Fault;
-use std::alloc::{AllocError, Global};
+use listing::{Settings, SharingRule};
+use std::fmt;
 
 // What `check_listing --help` prints.
 pub fn help_text() -> &'static str
@@ -15,55 +13,71 @@ pub fn help_text() -> &'static str
     "check_listing: judges the listing of a heap.\n\nusage: check_listing [FILE]\n       check_listing --help\n\nReads FILE, or standard input. An accepted listing prints a sheet, one key=value a line:\ncells, width, sections, markers, share, objects, references, roots, covered.\nA refused one prints refused= and the refusal's number, then line= and the line, and ends\nwith status 1: 1 form, 2 range, 3 overlap, 4 stranger, 5 memory. Line 0 stands for no line.\n"
 }
 
-// One line, key=number.
-fn number_line(memory: Global, key: &str, number: usize) -> Result<String, AllocError>
-    ensures { IfOk result (λ t. string_bytes t ≡ pair key.now (decimal number)) }
-{
-    format!(in memory; "{key}={number}\n")
+// What is printed of an accepted listing.
+#[derive(Clone, Copy, PartialEq, Eq, Debug)]
+pub struct Sheet {
+    pub cells: usize,
+    pub width: usize,
+    pub sections: usize,
+    pub markers: usize,
+    pub share: SharingRule,
+    pub objects: usize,
+    pub references: usize,
+    pub roots: usize,
+    pub covered: usize,
 }
 
-// Adds one line, key=number.
-fn add_number(text: &mut String, memory: Global, key: &str, number: usize) -> Result<(), AllocError>
-    ensures { OnOk result (string_bytes text.new ≡ string_bytes text.old ++ pair key.now (decimal number)) }
-{
-    let line = number_line(memory, key, number)?;
-    text.push_str(line.as_str())
+impl Sheet {
+    ghost use Rattle.sheet.specs.Texts.{sheet_of};
+
+    // The sheet of a heap and its settings.
+    #[tactic(auto, using(heap::proofs::Laid::counts))]
+    pub fn of(heap: &CheckedHeap, settings: Settings) -> Sheet
+        ensures { result ≡ sheet_of (heap_of heap.now) settings }
+    {
+        Sheet {
+            cells: heap.cells,
+            width: heap.width,
+            sections: heap.sections(),
+            markers: settings.markers,
+            share: settings.share,
+            objects: heap.objects,
+            references: heap.references,
+            roots: heap.roots,
+            covered: heap.covered(),
+        }
+    }
 }
 
-// A refusal as two lines.
-pub fn fault_text(memory: Global, fault: Fault) -> Result<String, AllocError>
-    ensures { IfOk result (λ t. string_bytes t ≡ fault_text fault) }
-{
-    let mut text = number_line(memory, "refused", fault.refusal.number() as usize)?;
-    add_number(&mut text, memory, "line", fault.line as usize)?;
-    Ok(text)
-}
+// One line a number, key=value.
+impl fmt::Display for Sheet {
+    ghost use Rattle.sheet.specs.Texts.{sheet_lines};
 
-// Adds the lines of the settings.
-fn add_settings(text: &mut String, memory: Global, settings: Settings) -> Result<(), AllocError>
-    ensures { OnOk result (string_bytes text.new ≡ string_bytes text.old ++ pair (codes "markers") (decimal settings.markers) ++ pair (codes "share") (word_of settings.share)) }
-{
-    add_number(text, memory, "markers", settings.markers)?;
-    let share = settings.share.word();
-    let line = format!(in memory; "share={share}\n")?;
-    text.push_str(line.as_str())
-}
+    ghost output = { λ sheet. Some (sheet_lines sheet) };
 
-// The numbers of a heap and its settings, one line each.
-pub fn sheet_text(
-    memory: Global,
-    heap: &CheckedHeap,
-    settings: Settings,
-) -> Result<String, AllocError>
-    ensures { IfOk result (λ t. string_bytes t ≡ sheet_text (heap_of heap.now) settings) }
-{
-    let mut text = number_line(memory, "cells", heap.cells)?;
-    add_number(&mut text, memory, "width", heap.width)?;
-    add_number(&mut text, memory, "sections", heap.sections())?;
-    add_settings(&mut text, memory, settings)?;
-    add_number(&mut text, memory, "objects", heap.objects)?;
-    add_number(&mut text, memory, "references", heap.references)?;
-    add_number(&mut text, memory, "roots", heap.roots)?;
-    add_number(&mut text, memory, "covered", heap.covered())?;
-    Ok(text)
+    fn fmt<W: fmt::Write>(&self, f: &mut fmt::Formatter<W>) -> fmt::Result {
+        let Sheet {
+            cells,
+            width,
+            sections,
+            markers,
+            share,
+            objects,
+            references,
+            roots,
+            covered,
+        } = *self;
+        write!(
+            f,
+            "cells={cells}\n\
+             width={width}\n\
+             sections={sections}\n\
+             markers={markers}\n\
+             share={share}\n\
+             objects={objects}\n\
+             references={references}\n\
+             roots={roots}\n\
+             covered={covered}\n"
+        )
+    }
 }
