@@ -1,56 +1,68 @@
 // Judges the listing in a file or on standard input, and prints its sheet or its refusal.
 #![tactic(auto)]
 
-use anyhow::anyhow;
-use sheet::{help_text, judge_listing, longest_listing};
-use std::env;
+use anyhow::bail;
+use sheet::{JudgeError, help_text, judge_listing, longest_listing};
+use std::alloc::Global;
 use std::fs::File;
 use std::io::Read;
 use std::process::ExitCode;
+use std::{env, io};
 
 // The text that is read, and no more of it than tells that it is too long.
-fn read_text(rt: &HostRuntime, path: Option<String>) -> anyhow::Result<Vec<u8>> {
-    let most = longest_listing() as u64 + 1;
-    let mut text = Vec::new(rt.alloc());
-    match path {
-        Some(path) => {
-            let file = match File::open(rt, path.as_str()) {
-                Ok(file) => file,
-                Err(e) => return Err(anyhow!(format!(in rt.alloc(); "cannot open {path}: {e}")?)),
-            };
-            file.take(most).read_to_end(&mut text)?;
-        }
-        None => {
-            rt.stdin().take(most).read_to_end(&mut text)?;
-        }
-    }
+fn read_text<R: Read + Drop>(memory: Global, input: R) -> io::Result<Vec<u8>> {
+    let mut text = Vec::new(memory);
+    input
+        .take(longest_listing() as u64 + 1)
+        .read_to_end(&mut text)?;
     Ok(text)
 }
 
-// Whether the program ends with status 0.
-fn run(rt: &HostRuntime) -> anyhow::Result<bool> {
-    let mut words = env::args(rt)?;
-    let _ = words.next();
-    let path = words.next();
-    if words.next().is_some() {
-        return Err(anyhow!("more than one file is named: see check_listing --help"));
+// Prints what is answered to a text, and gives the status to end with.
+fn judge(rt: &HostRuntime, text: &[u8]) -> anyhow::Result<ExitCode> {
+    match judge_listing(rt.alloc(), text) {
+        Ok(sheet) => {
+            rt.print(sheet)?;
+            Ok(ExitCode::SUCCESS)
+        }
+        Err(refusal @ JudgeError::Refused(_)) => {
+            rt.print(refusal)?;
+            Ok(ExitCode::FAILURE)
+        }
+        Err(error) => Err(error.into()),
     }
-    if let Some(word) = &path {
-        if word.as_str() == "--help" {
-            rt.print(help_text())?;
-            return Ok(true);
+}
+
+fn judge_file(rt: &HostRuntime, path: &str) -> anyhow::Result<ExitCode> {
+    match File::open(rt, path) {
+        Ok(file) => judge(rt, &read_text(rt.alloc(), file)?),
+        // printed here: an `anyhow::Error` would cut a long path
+        Err(error) => {
+            eprintln!(rt; "check_listing: cannot open {path}: {error}")?;
+            Ok(ExitCode::FAILURE)
         }
     }
-    let text = read_text(rt, path)?;
-    let verdict = judge_listing(rt.alloc(), text.as_slice())?;
-    rt.print(verdict.text.as_str())?;
-    Ok(verdict.accepted)
+}
+
+fn run(rt: &HostRuntime) -> anyhow::Result<ExitCode> {
+    let mut words = env::args(rt)?.skip(1);
+    let path = words.next();
+    if words.next().is_some() {
+        bail!("more than one file is named: see check_listing --help");
+    }
+    match path {
+        Some(word) if word.as_str() == "--help" => {
+            rt.print(help_text())?;
+            Ok(ExitCode::SUCCESS)
+        }
+        Some(path) => judge_file(rt, &path),
+        None => judge(rt, &read_text(rt.alloc(), rt.stdin())?),
+    }
 }
 
 fn main(rt: HostRuntime) -> anyhow::Result<ExitCode> {
     match run(&rt) {
-        Ok(true) => Ok(ExitCode::SUCCESS),
-        Ok(false) => Ok(ExitCode::FAILURE),
+        Ok(status) => Ok(status),
         Err(trouble) => {
             eprintln!(rt; "check_listing: {trouble}")?;
             Ok(ExitCode::FAILURE)
