@@ -33,6 +33,7 @@ fn judge(rt: &HostRuntime, text: &[u8]) -> anyhow::Result<ExitCode> {
     }
 }
 
+// Judges the text in a file.
 fn judge_file(rt: &HostRuntime, path: &str) -> anyhow::Result<ExitCode> {
     match File::open(rt, path) {
         Ok(file) => judge(rt, &read_text(rt.alloc(), file)?),
