@@ -1,5 +1,5 @@
 // An object in the object table: the cells it covers, where in the reference table its references begin, and how many there are.
-#[derive(Clone, Copy, PartialEq, Eq, Debug)]
+#[derive(Clone, Copy, Default, PartialEq, Eq, Debug)]
 pub struct ObjectEntry {
     pub at: u16,
     pub len: u16,

@@ -86,13 +86,7 @@ pub fn judge_listing(memory: Global, text: &[u8]) -> Result<Sheet, JudgeError>
             line: 0,
         }));
     }
-    let none = ObjectEntry {
-        at: 0,
-        len: 0,
-        first: 0,
-        count: 0,
-    };
-    let mut objects = vec![in memory; none; MOST_OBJECTS]?;
+    let mut objects = vec![in memory; ObjectEntry::default(); MOST_OBJECTS]?;
     let mut references = vec![in memory; 0u16; MOST_REFERENCES]?;
     let mut roots = vec![in memory; 0u16; MOST_ROOTS]?;
     let mut heap = CheckedHeap::empty(&mut objects, &mut references, &mut roots);
