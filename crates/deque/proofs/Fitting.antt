@@ -1,7 +1,7 @@
 -- Ends that fit their places are taken as they are. Assumes nothing.
 use Rattle.std.proofs.Common.{◌≡◌, ℕ, ◌-◌, ◌≤◌, cond, ltb, ap, ◌∙◌, arith}
 use Rattle.std.proofs.lemmas.Bool.Decides.{nat_tests}
-use Rattle.deque.specs.declared.state.Ends.{Ends}
+use Rattle.deque.specs.declared.Ends.{Ends}
 use Rattle.deque.specs.Ends.{fitted}
 
 pub fitted_same : (n : ℕ) (e : Ends) → e.first ≤ n - 1 → e.held ≤ n → fitted n e ≡ e

@@ -1,6 +1,6 @@
 -- The ends of a deque: what it holds, and what they become. Assumes nothing.
 use Rattle.std.specs.Prelude.{ℕ, ◌+◌, ◌-◌, cond, List, nat_lt}
-use Rattle.deque.specs.declared.state.Ends.{Ends}
+use Rattle.deque.specs.declared.Ends.{Ends}
 use Rattle.deque.specs.Circle.{wrapped, window}
 
 -- nothing held, from the first place on

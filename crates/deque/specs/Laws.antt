@@ -1,7 +1,7 @@
 -- It is a double-ended queue. Assumes nothing.
 use Rattle.std.specs.Prelude.{◌≡◌, List, [], ◌∷◌, ◌++◌, Some, None, Ok, Err, Option, Result}
 use Rattle.refusal.specs.declared.Refusal.{Refusal}
-use Rattle.deque.specs.declared.state.Ends.{Ends}
+use Rattle.deque.specs.declared.Ends.{Ends}
 use Rattle.deque.specs.Ends.{held_in}
 use Rattle.deque.specs.Promises.{Pushes, PopsTop}
 

@@ -2,7 +2,7 @@
 use Rattle.std.specs.Prelude.{◌≡◌, ◌<◌, List, [], ◌∷◌, ◌++◌, length, Some, None, Ok, Err, Option, Result, slice_set}
 use Rattle.refusal.specs.declared.Refusal.{Refusal}
 use Rattle.refusal.specs.declared.Refusal.TheVariants.{Full}
-use Rattle.deque.specs.declared.state.Ends.{Ends}
+use Rattle.deque.specs.declared.Ends.{Ends}
 use Rattle.deque.specs.Ends.{held_in, above, one_more, without_top, without_bottom}
 
 -- nothing is changed

@@ -3,17 +3,19 @@
 
 ghost use Rattle.std.specs.Prelude.{◌≡◌, ◌+◌, ◌-◌, ◌<◌, ◌≤◌, length};
 ghost use Rattle.deque.specs.Circle.{wrapped};
-ghost use Rattle.deque.specs.Ends.{fresh, fitted, held_in};
-ghost use Rattle.deque.specs.Promises.{Pushes, PopsTop, PopsBottom};
-ghost use Rattle.deque.specs.Laws.{ComesBack, GivesOldest};
 
 use refusal::Refusal;
 
-mod state;
-
-pub use state::{Deque, Ends};
+// What is kept of a deque between two uses: the place of its bottom element, and how many elements it holds.
+#[derive(Clone, Copy, PartialEq, Eq, Debug)]
+pub struct Ends {
+    pub first: usize,
+    pub held: usize,
+}
 
 impl Ends {
+    ghost use Rattle.deque.specs.Ends.{fresh};
+
     // The ends of a deque that holds nothing, from the first place on.
     pub fn fresh() -> Ends
         ensures { result ≡ fresh }
@@ -32,7 +34,19 @@ fn place_after(n: usize, first: usize, by: usize) -> usize
     if by < left { first + by } else { by - left }
 }
 
+// A deque that is in use: its ends, and the places that it is lent. The first place is one of them, or 0 where there are none.
+#[derive(Drop)]
+pub struct Deque<'a, X> {
+    ends: Ends,
+    places: &'a mut [X],
+    ghost begins: { ends.first ≤ length places.now - 1 },
+    ghost fits: { ends.held ≤ length places.now },
+}
+
 impl<'a, X: Copy> Deque<'a, X> {
+    ghost use Rattle.deque.specs.Ends.{fitted, held_in};
+    ghost use Rattle.deque.specs.Calls.{DequePushes, DequePopsTop, DequePopsBottom};
+
     // The deque with these ends in these places. Ends that no deque has in so many places are changed to fit.
     pub fn over(places: &'a mut [X], ends: Ends) -> Deque<'a, X>
         ensures ends { result.ends ≡ fitted (length places.old) ends }
@@ -40,31 +54,26 @@ impl<'a, X: Copy> Deque<'a, X> {
         ensures lender { result.places.ghost_name ≡ places.entry.ghost_name }
     {
         let n = places.len();
-        let first = if ends.first < n { ends.first } else { 0 };
-        let held = if ends.held < n { ends.held } else { n };
-        Deque {
-            ends: Ends { first, held },
-            places,
-        }
+        let ends = Ends {
+            first: if ends.first < n { ends.first } else { 0 },
+            held: ends.held.min(n),
+        };
+        Deque { ends, places }
     }
 
     // The ends to keep until the next use.
+    #[tactic(auto, using(crate::proofs::Windows::length_window, crate::proofs::Fitting::fitted_same))]
     pub fn ends(&self) -> Ends
         ensures value { result ≡ self.now.ends }
         ensures fitting { fitted (length self.now.places.now) result ≡ result }
         ensures count { length (held_in result self.now.places.now) ≡ result.held }
     {
-        Ends {
-            first: self.ends.first,
-            held: self.ends.held,
-        }
+        self.ends
     }
 
     // Puts `x` on the top. Refused as full exactly if every place is held.
     pub fn push(&mut self, x: X) -> Result<(), Refusal>
-        ensures pushed { Pushes self.old.ends self.new.ends self.old.places.now self.new.places.now x result }
-        ensures lender { self.new.places.ghost_name ≡ self.old.places.ghost_name }
-        ensures back { ComesBack self.old.ends self.new.ends self.old.places.now self.new.places.now x result }
+        ensures { DequePushes self.old self.new x result }
     {
         let n = self.places.len();
         if self.ends.held >= n {
@@ -77,33 +86,30 @@ impl<'a, X: Copy> Deque<'a, X> {
     }
 
     // Takes the element on the top, if there is one. Its place keeps it.
+    #[tactic(auto, using(crate::proofs::Windows::window_top))]
     pub fn pop_top(&mut self) -> Option<X>
-        ensures popped { PopsTop self.old.ends self.new.ends self.old.places.now self.new.places.now result }
-        ensures lender { self.new.places.ghost_name ≡ self.old.places.ghost_name }
+        ensures { DequePopsTop self.old self.new result }
     {
         if self.ends.held == 0 {
             return None;
         }
-        let top = place_after(self.places.len(), self.ends.first, self.ends.held - 1);
         self.ends.held -= 1;
+        let top = place_after(self.places.len(), self.ends.first, self.ends.held);
         Some(self.places[top])
     }
 
     // Takes the element at the bottom, if there is one. Its place keeps it.
     pub fn pop_bottom(&mut self) -> Option<X>
-        ensures popped { PopsBottom self.old.ends self.new.ends self.old.places.now self.new.places.now result }
-        ensures lender { self.new.places.ghost_name ≡ self.old.places.ghost_name }
-        ensures oldest { GivesOldest self.old.ends self.new.ends self.old.places.now self.new.places.now result }
+        ensures { DequePopsBottom self.old self.new result }
     {
-        if self.ends.held == 0 {
+        let Ends { first, held } = self.ends;
+        if held == 0 {
             return None;
         }
-        let bottom = self.ends.first;
-        let first = place_after(self.places.len(), bottom, 1);
         self.ends = Ends {
-            first,
-            held: self.ends.held - 1,
+            first: place_after(self.places.len(), first, 1),
+            held: held - 1,
         };
-        Some(self.places[bottom])
+        Some(self.places[first])
     }
 }

@@ -1,7 +1,7 @@
 -- A push onto a stack in a part of a stretch. Assumes nothing.
 use Rattle.std.specs.Prelude.{◌≡◌, ℕ, ◌-◌, List, take, drop, Result}
 use Rattle.refusal.specs.declared.Refusal.{Refusal}
-use Rattle.deque.specs.declared.state.Ends.{Ends}
+use Rattle.deque.specs.declared.Ends.{Ends}
 use Rattle.deque.specs.Ends.{fitted}
 use Rattle.deque.specs.Promises.{Pushes}
 
