@@ -1,5 +1,5 @@
 -- The ends of a deque: what it holds, and what they become. Assumes nothing.
-use Rattle.std.specs.Prelude.{ℕ, ◌+◌, ◌-◌, cond, List, nat_lt}
+use Rattle.std.specs.Prelude.{ℕ, ◌+◌, ◌-◌, cond, List, min, nat_lt}
 use Rattle.deque.specs.declared.Ends.{Ends}
 use Rattle.deque.specs.Circle.{wrapped, window}
 
@@ -9,7 +9,7 @@ fresh = record { first = 0; held = 0 }
 
 -- the ends as a deque over n places has them: a first place that is none of them counts as place 0, and no more are held than there are places
 abbrev pub fitted : ℕ → Ends → Ends
-fitted n e = record { first = cond (nat_lt e.first n) e.first 0; held = cond (nat_lt e.held n) e.held n }
+fitted n e = record { first = cond (nat_lt e.first n) e.first 0; held = min e.held n }
 
 -- the elements that it holds in its places, from the bottom to the top
 abbrev pub held_in : {X : Type 0} → Ends → List X → List X

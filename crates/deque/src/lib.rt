@@ -62,7 +62,7 @@ impl<'a, X: Copy> Deque<'a, X> {
     }
 
     // The ends to keep until the next use.
-    #[tactic(auto, using(crate::proofs::Windows::length_window, crate::proofs::Fitting::fitted_same))]
+    #[tactic(auto, using(crate::proofs::Windows::length_window))]
     pub fn ends(&self) -> Ends
         ensures value { result ≡ self.now.ends }
         ensures fitting { fitted (length self.now.places.now) result ≡ result }

@@ -1,8 +1,8 @@
 -- The entries of one pair among the words, and what a write to one pair leaves of them. Assumes nothing.
-use Rattle.std.proofs.Common.{◌≡◌, ℕ, ◌+◌, ◌-◌, ◌*◌, ◌<◌, ◌≤◌, List, length, get_or, take, drop, set, ap, ◌∙◌, ⊎_elim, add-mul, arith, length-drop, length-take}
-use lib.Seq.{take-set-lt}
-use Rattle.std.proofs.lemmas.List.{drop-set-add, drop-set-lt, take-set-le, get_or-take, get_or-drop}
-use Rattle.std.proofs.lemmas.Bool.{cases_lt}
+use Rattle.std.proofs.Common.{◌≡◌, ℕ, ◌+◌, ◌-◌, ◌*◌, ◌<◌, ◌≤◌, List, length, get_or, take, drop, set, ⊎_elim, add-mul, arith, rules, length-drop, length-take, length-set}
+use borrow.Rule.Slice.PartMut.{put_mid}
+use Rattle.std.proofs.lemmas.List.{places, same_lists, get_or-set_same}
+use Rattle.std.proofs.lemmas.Bool.{cases_eq, cases_lt}
 use Rattle.std.proofs.lemmas.Nat.{mul-le}
 use Rattle.exchange.specs.Entries.{entries_of}
 
@@ -10,25 +10,45 @@ use Rattle.exchange.specs.Entries.{entries_of}
 pub row_le : (p q len : ℕ) → p < q → p * len + len ≤ q * len
 row_le p q len l = omega (arith, mul-le (p + 1) len q len (omega arith) (omega arith), add-mul p 1 len)
 
-module _ (words : List ℕ) (len q : ℕ) where
-  pub entries_at : (p : ℕ) → p < len → get_or (entries_of len q words) p 0 ≡ get_or words (q * len + p) 0
-  entries_at p l = get_or-take len (drop (q * len) words) p 0 l ∙ get_or-drop (q * len) words p 0
+-- the entries of a pair are among the words
+pub row_within : (q n len : ℕ) (words : List ℕ) → q < n → n * len ≤ length words → q * len + len ≤ length words
+row_within q n len words l room = omega (arith, row_le q n len l)
 
-  pub entries_length : (n : ℕ) → q < n → n * len ≤ length words → length (entries_of len q words) ≡ len
-  entries_length n l room = simp (length-take, length-drop) (omega (arith, row_le q n len l))
+-- len words from word a on
+module _ (words es : List ℕ) (len a : ℕ) (within : a + len ≤ length words) where
+  pub part_length : length (take len (drop a words)) ≡ len
+  part_length = simp (length-take, length-drop) (omega arith)
 
-  pub entries_set : (p v : ℕ) → p < len → entries_of len q (set words (q * len + p) v) ≡ set (entries_of len q words) p v
-  entries_set p v l = ap (take len) (drop-set-add (q * len) words p v) ∙ take-set-lt len (drop (q * len) words) p v l
+  pub part_at : (p : ℕ) → p < len → get_or (take len (drop a words)) p 0 ≡ get_or words (a + p) 0
+  part_at p l = grind (arith, places)
 
-  pub entries_other : (o p v : ℕ) → p < len → (o ≡ q → ⊥) → entries_of len o (set words (q * len + p) v) ≡ entries_of len o words
-  entries_other o p v l ne =
-      ⊎_elim
-      (λ (low : o < q).
-      let e : q * len + p ≡ o * len + (q * len + p - o * len) = omega (arith, row_le o q len low) in
-      let far : len ≤ q * len + p - o * len = omega (arith, row_le o q len low) in
-      ap (λ k. entries_of len o (set words k v)) e ∙ ap (take len) (drop-set-add (o * len) words (q * len + p - o * len) v)
-      ∙ take-set-le len (drop (o * len) words) (q * len + p - o * len) v far)
-      (λ (high : q ≤ o).
-      let before : q * len + p < o * len = omega (arith, row_le q o len (omega (arith, ne))) in
-      ap (take len) (drop-set-lt (o * len) words (q * len + p) v before))
-      (cases_lt o q)
+  -- they are written as they were
+  pub part_same : put_mid a (a + len - a) words (take len (drop a words)) ≡ words
+  part_same = same_lists _ _ (grind (arith, places)) (λ k d h. grind (arith, places))
+
+  -- one of them is written
+  pub part_set : (p v : ℕ) → p < len → put_mid a (a + len - a) words (set (take len (drop a words)) p v) ≡ set words (a + p) v
+  part_set p v l = same_lists _ _ (grind (arith, places, length-set)) (λ k d h. grind (arith, places, length-set, get_or-set_same, cases_eq k (a + p)))
+
+  -- all of them are written
+  module _ (long : length es ≡ len) where
+    pub words_length : length (put_mid a (a + len - a) words es) ≡ length words
+    words_length = grind (arith, places)
+
+    pub part_here : take len (drop a (put_mid a (a + len - a) words es)) ≡ es
+    part_here = same_lists _ _ (grind (arith, places)) (λ k d h. grind (arith, places))
+
+    pub part_before : (b : ℕ) → b + len ≤ a → take len (drop b (put_mid a (a + len - a) words es)) ≡ take len (drop b words)
+    part_before b l = same_lists _ _ (grind (arith, places)) (λ k d h. grind (arith, places))
+
+    pub part_behind : (b : ℕ) → a + len ≤ b → take len (drop b (put_mid a (a + len - a) words es)) ≡ take len (drop b words)
+    part_behind b l = same_lists _ _ (grind (arith, places)) (λ k d h. grind (arith, places))
+
+-- the entries of another pair stay
+pub entries_other : (words es : List ℕ) (len q o : ℕ) → q * len + len ≤ length words → length es ≡ len → (o ≡ q → ⊥)
+    → entries_of len o (put_mid (q * len) (q * len + len - q * len) words es) ≡ entries_of len o words
+entries_other words es len q o within long ne =
+    ⊎_elim
+    (λ (low : o < q). part_before words es len (q * len) within long (o * len) (row_le o q len low))
+    (λ (high : q ≤ o). part_behind words es len (q * len) within long (o * len) (row_le q o len (omega (arith, ne))))
+    (cases_lt o q)

@@ -1,8 +1,8 @@
 pub mod Pairings
 pub mod EntryParts
+pub mod Newest
+pub mod Moves
 pub mod Turns
 pub mod RingSteps
 pub mod RingFresh
-pub mod Newest
-pub mod Moves
 pub mod PoolSteps

@@ -1,24 +1,20 @@
 -- A put and a take of a pool, over all pairs. Assumes nothing.
-use Rattle.std.proofs.Common.{◌≡◌, ℕ, zero, suc, ◌+◌, ◌-◌, ◌<◌, ◌≤◌, List, [], ◌∷◌, ◌++◌, length, get_or, set, Some, sym, refl, ap, ◌∙◌, subst, ⊎_elim, zero-add, arith, length-append}
+use Rattle.std.proofs.Common.{◌≡◌, ℕ, zero, suc, ◌+◌, ◌-◌, ◌<◌, ◌≤◌, List, [], ◌∷◌, ◌++◌, length, get_or, set, Some, None, Ok, Option, is_none, sym, refl, ap, ◌∙◌, subst, ⊎_elim, zero-add, arith, length-append}
 use Rattle.std.proofs.lemmas.List.{append-nil, get_or-set_same, get_or-set_other}
 use Rattle.std.proofs.lemmas.Bool.{cases_eq}
-use Rattle.exchange.specs.declared.pool_state.Pool.{Pool}
-use Rattle.exchange.specs.Pairs.{Pair, pairs_of, pair_at}
+use Rattle.exchange.specs.declared.pool.Pool.{Pool}
+use Rattle.exchange.specs.Pairs.{Pair, pairs_of, pair_at, Numbered}
 use Rattle.exchange.specs.Numbers.{pair_of}
-use Rattle.exchange.specs.Places.{task_at, tasks_from, newest_of, waiting_below}
-use Rattle.exchange.specs.Calls.{Joins, Leaves}
-use Rattle.exchange.specs.PoolMeaning.{PoolState, pool_tasks, all_waiting, added_to, removed_from, Given}
-use Rattle.exchange.proofs.Moves.{moved, closed_moved, moved_low, moved_down}
-use Rattle.exchange.proofs.Newest.{tasks_append, tasks_more, none_at, task_at_here, newest_last, tasks_same}
+use Rattle.exchange.specs.Places.{task_at, tasks_from, newest_of, closed_up, waiting_below}
+use Rattle.exchange.specs.Calls.{Joins, Leaves, LookSays}
+use Rattle.exchange.specs.PoolMeaning.{PoolState, pool_of, pool_tasks, all_waiting, added_to, removed_from, Given, pool_serves, pool_waiting, pool_vacant}
+use Rattle.exchange.proofs.Moves.{closed_low, closed_down}
+use Rattle.exchange.proofs.Newest.{nothing_newest, tasks_append, tasks_more, none_at, task_at_here, newest_last, tasks_same}
 use Rattle.exchange.proofs.Pairings.{number_same}
 
 -- a pair needs two markers
 pub two_serve : (m q : ℕ) → q < pairs_of m → 2 ≤ m
 two_serve m q l = let of = pair_of m q l in omega (arith, of.2.0, of.2.1, of.2.2)
-
--- a pool that holds a task has its words
-pub words_lent : (p : Pool) (k : ℕ) → k < p.held → 1024 ≤ length p.words.now
-words_lent p k l = p.room (two_serve p.served (get_or p.pairs k 0) (p.known k l))
 
 below_append : (f g : ℕ → List ℕ) (m : ℕ) → waiting_below (λ q. f q ++ g q) m ≡ waiting_below f m + waiting_below g m
 below_append f g zero = refl
@@ -90,15 +86,14 @@ module _ (s : PoolState) (q k : ℕ) (found : newest_of q s.pairs s.held ≡ Som
   removed a =
       let d = s.held - (k + 1) in
       let n : s.held - 1 ≡ k + (s.held - (k + 1)) = omega (arith, last.0) in
-      let p = moved k (s.held - 1) s.pairs in
-      let w = moved k (s.held - 1) s.words in
+      let p = closed_up k s.held s.pairs in
+      let w = closed_up k s.held s.words in
       let low = tasks_same a s.pairs s.words p w 0 0 k
-      (λ x l. moved_low s.pairs k (s.held - 1) (0 + x) (omega (arith, last.0)) (omega (arith, last.0)) (omega arith))
-      (λ x l. moved_low s.words k (s.held - 1) (0 + x) (omega (arith, last.0)) (omega (arith, last.0)) (omega arith)) in
+      (λ x l. closed_low s.pairs k s.held last.0 roomP (0 + x) (omega arith)) (λ x l. closed_low s.words k s.held last.0 roomW (0 + x) (omega arith)) in
       let high = tasks_same a s.pairs s.words p w (0 + k) (k + 1) (s.held - (k + 1))
-      (λ x l. moved_down s.pairs k (s.held - 1) (0 + k + x) (omega (arith, last.0)) (omega (arith, last.0)) (omega arith) (omega (arith, last.0)) ∙ ap (λ z. get_or s.pairs z 0) (omega arith))
-      (λ x l. moved_down s.words k (s.held - 1) (0 + k + x) (omega (arith, last.0)) (omega (arith, last.0)) (omega arith) (omega (arith, last.0)) ∙ ap (λ z. get_or s.words z 0) (omega arith)) in
-      rw (closed_moved k s.held s.pairs, closed_moved k s.held s.words) (ap (tasks_from a p w 0) n ∙ tasks_append a p w 0 k (s.held - (k + 1)) ∙ rw (low, high) refl)
+      (λ x l. closed_down s.pairs k s.held last.0 roomP (0 + k + x) (omega arith) (omega (arith, last.0)) ∙ ap (λ z. get_or s.pairs z 0) (omega arith))
+      (λ x l. closed_down s.words k s.held last.0 roomW (0 + k + x) (omega arith) (omega (arith, last.0)) ∙ ap (λ z. get_or s.words z 0) (omega arith)) in
+      ap (tasks_from a p w 0) n ∙ tasks_append a p w 0 k (s.held - (k + 1)) ∙ rw (low, high) refl
 
   here : pool_tasks (removed_from k s) q ≡ tasks_from q s.pairs s.words 0 k
   here =
@@ -147,3 +142,9 @@ module _ (s : PoolState) (i j : ℕ) (p : Pair s.served i j) where
         left = sym (append-nil _);
         others = λ a b r ne. removed_there s (pair_at s.served i j) k found roomP roomW (pair_at s.served a b) (apart a b r ne);
       })
+
+module _ (p : Pool) (i j q : ℕ) (n : Numbered p.served i j (Ok q)) (roomP : p.held ≤ length p.pairs) where
+  -- a search finds a task exactly where one waits
+  pub look_meaning : (o : Option ℕ) → o ≡ newest_of q p.pairs p.held → LookSays pool_serves pool_waiting pool_vacant i j p p (Ok (is_none o))
+  look_meaning (Some k) e = (n.0, rw (← n.1) (some_wait (pool_of p) q k (sym e) roomP p.lent), (refl, λ a b r. (refl, refl)))
+  look_meaning None e = (n.0, rw (← n.1) (nothing_newest q p.pairs p.words.now p.held (sym e)), (refl, λ a b r. (refl, refl)))

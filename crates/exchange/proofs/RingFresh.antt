@@ -1,17 +1,25 @@
 -- A ring whose entries are all vacant: nothing waits, and it keeps what a ring keeps. Assumes nothing.
 use Rattle.std.proofs.Common.{◌≡◌, ℕ, ◌+◌, ◌-◌, ◌*◌, ◌<◌, ◌≤◌, List, [], ◌++◌, length, get_or, take, drop, replicate, sym, ap, ◌∙◌, mod-eq_of_lt, arith, length-append}
+use Rattle.std.specs.Borrow.{MutBor}
 use lib.ListN.{length-replicate}
 use Rattle.std.proofs.lemmas.List.{drop-append-le, drop-replicate, take-append-le, take-replicate, get_or-replicate, append-nil}
 use Rattle.exchange.specs.Pairs.{pairs_of}
-use Rattle.exchange.specs.Entries.{entries_of, filled, tasks}
-use Rattle.exchange.specs.RingMeaning.{new_ring, ring_tasks}
+use Rattle.exchange.specs.Entries.{entries_of, filled, tasks, start, IsRing}
+use Rattle.exchange.specs.RingMeaning.{new_ring, turn, ring_tasks}
 use Rattle.exchange.proofs.EntryParts.{row_le}
 use Rattle.exchange.proofs.Turns.{filled_zeros}
-use Rattle.exchange.proofs.RingSteps.{Sound}
+use Rattle.exchange.proofs.RingSteps.{Rings}
 
 no_tasks : (n : ℕ) → tasks (replicate n 0) 0 ≡ []
 unfolding tasks
 no_tasks n = ap filled (append-nil (replicate n 0)) ∙ filled_zeros n
+
+vacant_ring : (n : ℕ) → 1 ≤ n → IsRing start (replicate n 0)
+vacant_ring n some = let whole : n ≡ n - 0 = omega arith in record {
+  within = rw length-replicate some;
+  after = rw (length-replicate, no_tasks n) (sym (mod-eq_of_lt some));
+  stand = rw (length-replicate, no_tasks n) (append-nil {A = ℕ} (replicate n 0) ∙ ap (λ k. replicate {A = ℕ} k 0) whole);
+}
 
 vacant_entries : (n q len : ℕ) (rest : List ℕ) → q * len + len ≤ n → entries_of len q (replicate n 0 ++ rest) ≡ replicate len 0
 vacant_entries n q len rest le =
@@ -21,21 +29,18 @@ vacant_entries n q len rest le =
     ap (take len) (drop-append-le (q * len) (replicate n 0) rest before ∙ ap (λ xs. xs ++ rest) (drop-replicate (q * len) n 0))
     ∙ take-append-le len (replicate (n - q * len) 0) rest within ∙ take-replicate len (n - q * len) 0 enough
 
-module _ (m len : ℕ) (words : List ℕ) (holds : 1 ≤ len) (few : pairs_of m ≤ 240) where
+module _ (m len : ℕ) (words : MutBor (List ℕ)) (holds : 1 ≤ len) (few : pairs_of m ≤ 240) where
   vacant : (q : ℕ) → q < pairs_of m → entries_of len q (new_ring m len words).words ≡ replicate len 0
-  vacant q l = vacant_entries (pairs_of m * len) q len (drop (pairs_of m * len) words) (row_le q (pairs_of m) len l)
+  vacant q l = vacant_entries (pairs_of m * len) q len (drop (pairs_of m * len) words.now) (row_le q (pairs_of m) len l)
 
-  head_zero : (q : ℕ) → q < pairs_of m → get_or (replicate {A = ℕ} 240 0) q 0 ≡ 0
-  head_zero q l = get_or-replicate 240 q 0 0 (omega arith)
+  at_start : (q : ℕ) → q < pairs_of m → turn (new_ring m len words) q ≡ start
+  at_start q l = get_or-replicate 240 q start start (omega arith)
 
   pub none_wait : (q : ℕ) → q < pairs_of m → ring_tasks (new_ring m len words) q ≡ []
-  none_wait q l = rw (vacant q l, head_zero q l) (no_tasks len)
+  none_wait q l = rw (vacant q l, at_start q l) (no_tasks len)
 
-  pub fresh_sound : Sound (new_ring m len words)
-  fresh_sound = let whole : len ≡ len - 0 = omega arith in record {
-    holds = holds;
+  pub fresh_rings : pairs_of m * len ≤ length words.now → Rings (new_ring m len words)
+  fresh_rings room = record {
     room = rw (length-append, length-replicate) (omega arith);
-    within = λ q l. rw (head_zero q l) holds;
-    after = λ q l. rw (vacant q l, head_zero q l, no_tasks len) (sym (mod-eq_of_lt holds));
-    stand = λ q l. rw (vacant q l, head_zero q l, no_tasks len) (append-nil {A = ℕ} (replicate len 0) ∙ ap (λ k. replicate {A = ℕ} k 0) whole);
+    each = λ q l. rw (vacant q l, at_start q l) (vacant_ring len holds);
   }

@@ -1,12 +1,12 @@
 -- One pair's entries: what a put and a take do to the waiting tasks. Assumes nothing.
-use Rattle.std.proofs.Common.{◌≡◌, ℕ, zero, suc, ◌+◌, ◌-◌, ◌%◌, ◌<◌, ◌≤◌, List, [], ◌∷◌, ◌++◌, length, get_or, take, drop, set, replicate, sym, refl, ap, ◌∙◌, ⊎_elim, append_assoc, add-zero, mod-eq_of_lt, arith, length-append, length-drop, length-set, length-take}
+use Rattle.std.proofs.Common.{◌≡◌, ℕ, zero, suc, ◌+◌, ◌-◌, ◌%◌, ◌<◌, ◌≤◌, List, [], ◌∷◌, ◌++◌, length, get_or, take, drop, set, replicate, sym, refl, ap, ◌∙◌, ⊎_elim, append_assoc, add-zero, mod-eq_of_lt, mod-lt, arith, length-append, length-drop, length-set, length-take}
 use native.Mathlib.Nat.{mod-eq-sub-mod, mod-add-mod, add-mod_right}
 use lib.ListN.{length-replicate}
 use lib.Seq.{take-set-lt}
 use Rattle.std.proofs.lemmas.List.{drop-set-add, drop-set-lt, take-set-le, set-append_left, set-append_right, set_at, get_or_append_left, get_or-append_right, get_or-take, get_or-drop, get_or-replicate, append-nil, take_all, drop_all, replicate_more, drop_more, take_more_set, nil_from_length}
 use Rattle.std.proofs.lemmas.Bool.{cases_lt}
-use Rattle.exchange.specs.Entries.{turned, filled, tasks, TailAfter, Together}
-use Rattle.exchange.specs.RingMeaning.{following}
+use Rattle.exchange.specs.declared.cursors.Cursors.{Cursors}
+use Rattle.exchange.specs.Entries.{turned, filled, tasks, TailAfter, Together, following, IsRing, tail_on, head_on, FillsTail, VacatesHead}
 
 -- past the last entry the count begins again
 round_past : (h n len : ℕ) → len ≤ h + n → h < len → n ≤ len → (h + n) % len ≡ h + n - len
@@ -129,7 +129,7 @@ module _ (es : List ℕ) (h t len : ℕ) (long : length es ≡ len) (hl : h < le
       rw e (filled_first (turned es h) l)
 
   -- the tail's entry is vacant exactly while there is a vacancy
-  pub room_when_vacant : get_or es t 0 ≡ 0 → length (tasks es h) < len
+  room_when_vacant : get_or es t 0 ≡ 0 → length (tasks es h) < len
   room_when_vacant z =
       ⊎_elim (λ l. l)
       (λ full.
@@ -140,15 +140,15 @@ module _ (es : List ℕ) (h t len : ℕ) (long : length es ≡ len) (hl : h < le
       absurd (omega arith))
       (cases_lt (length (tasks es h)) len)
 
-  pub full_when_held : (get_or es t 0 ≡ 0 → ⊥) → len - length (tasks es h) ≡ 0
+  full_when_held : (get_or es t 0 ≡ 0 → ⊥) → len - length (tasks es h) ≡ 0
   full_when_held ne = ⊎_elim (λ l. absurd (ne (vacant_at l))) (λ g. omega arith) (cases_lt (length (tasks es h)) len)
 
   -- the head's entry is vacant exactly while nothing waits
-  pub none_when_vacant : get_or es h 0 ≡ 0 → tasks es h ≡ []
+  none_when_vacant : get_or es h 0 ≡ 0 → tasks es h ≡ []
   none_when_vacant z =
       nil_from_length (tasks es h) (⊎_elim (λ l. let some : 0 < get_or es h 0 = first_task l in absurd (omega arith)) (λ g. omega arith) (cases_lt 0 (length (tasks es h))))
 
-  pub some_when_held : (get_or es h 0 ≡ 0 → ⊥) → tasks es h ≡ [] → ⊥
+  some_when_held : (get_or es h 0 ≡ 0 → ⊥) → tasks es h ≡ [] → ⊥
   some_when_held ne none =
       let first : get_or es h 0 ≡ get_or (replicate (len - length (tasks es h)) 0) 0 0 = first_is ∙ ap (λ xs. get_or xs 0 0) (stand ∙ ap (λ xs. xs ++ replicate (len - length (tasks es h)) 0) none) in
       ne (first ∙ get_or-replicate (len - length (tasks es h)) 0 0 0 (omega (arith, ap length none)))
@@ -162,7 +162,7 @@ module _ (es : List ℕ) (h t len : ℕ) (long : length es ≡ len) (hl : h < le
         ∙ ap (λ xs. set xs (length (tasks es h)) v) (stand ∙ ap (λ k. tasks es h ++ replicate k 0) more)
         ∙ set_at (tasks es h) 0 (replicate (len - length (tasks es h) - 1) 0) v (length (tasks es h)) refl
 
-    pub put_tasks : tasks (set es t v) h ≡ tasks es h ++ (v ∷ [])
+    put_tasks : tasks (set es t v) h ≡ tasks es h ++ (v ∷ [])
     unfolding tasks
     put_tasks =
         let zeros = replicate (len - length (tasks es h) - 1) 0 in
@@ -173,12 +173,12 @@ module _ (es : List ℕ) (h t len : ℕ) (long : length es ≡ len) (hl : h < le
     put_length : length (tasks (set es t v) h) ≡ length (tasks es h) + 1
     put_length = ap length put_tasks ∙ length-append (tasks es h) (v ∷ [])
 
-    pub put_tail : TailAfter len (set es t v) h (following len t)
+    put_tail : TailAfter len (set es t v) h (following len t)
     put_tail =
         let e : h + length (tasks es h) + 1 ≡ h + length (tasks (set es t v) h) = omega (arith, put_length) in
         ap (following len) after ∙ mod-add-mod (h + length (tasks es h)) len 1 ∙ ap (λ k. k % len) e
 
-    pub put_together : Together len (set es t v) h
+    put_together : Together len (set es t v) h
     put_together =
         let e : len - length (tasks es h) - 1 ≡ len - length (tasks (set es t v) h) = omega (arith, put_length) in
         turned_put ∙ sym (append_assoc (tasks es h) (v ∷ []) (replicate (len - length (tasks es h) - 1) 0))
@@ -194,17 +194,64 @@ module _ (es : List ℕ) (h t len : ℕ) (long : length es ≡ len) (hl : h < le
     unfolding tasks
     after_take = ap filled (turned_next es h len long hl) ∙ filled_append (drop 1 (turned es h)) (0 ∷ []) ∙ append-nil (filled (drop 1 (turned es h)))
 
-    pub take_tasks : tasks es h ≡ get_or es h 0 ∷ tasks (set es h 0) (following len h)
+    take_tasks : tasks es h ≡ get_or es h 0 ∷ tasks (set es h 0) (following len h)
     unfolding tasks
     take_tasks = ap filled split_first ∙ filled_cons (get_or es h 0) (drop 1 (turned es h)) some ∙ ap (λ xs. get_or es h 0 ∷ xs) (sym after_take)
 
-    pub take_tail : TailAfter len (set es h 0) (following len h) t
+    take_tail : TailAfter len (set es h 0) (following len h) t
     take_tail =
         let e : h + length (tasks es h) ≡ h + 1 + length (tasks (set es h 0) (following len h)) = omega (arith, ap length take_tasks) in
         after ∙ ap (λ k. k % len) e ∙ sym (mod-add-mod (h + 1) len (length (tasks (set es h 0) (following len h))))
 
-    pub take_together : Together len (set es h 0) (following len h)
+    take_together : Together len (set es h 0) (following len h)
     take_together =
         let n : len - length (tasks es h) + 1 ≡ len - length (tasks (set es h 0) (following len h)) = omega (arith, ap length take_tasks, few) in
         let rest : drop 1 (turned es h) ≡ tasks (set es h 0) (following len h) ++ replicate (len - length (tasks es h)) 0 = ap (drop 1) (stand ∙ ap (λ xs. xs ++ replicate (len - length (tasks es h)) 0) take_tasks) in
         turned_next es h len long hl ∙ ap (λ xs. xs ++ (0 ∷ [])) rest ∙ one_more_vacant (tasks (set es h 0) (following len h)) (len - length (tasks es h)) (len - length (tasks (set es h 0) (following len h))) n
+
+-- a put and a take of the ring of one pair
+module _ (c : Cursors) (es : List ℕ) (ring : IsRing c es) where
+  roomy : get_or es c.tail 0 ≡ 0 → length (tasks es c.head) < length es
+  roomy = room_when_vacant es c.head c.tail (length es) refl ring.within ring.after ring.stand
+
+  pub is_full : (get_or es c.tail 0 ≡ 0 → ⊥) → length es ≤ length (tasks es c.head)
+  is_full ne = omega (arith, full_when_held es c.head c.tail (length es) refl ring.within ring.after ring.stand ne)
+
+  pub nothing : get_or es c.head 0 ≡ 0 → tasks es c.head ≡ []
+  nothing = none_when_vacant es c.head c.tail (length es) refl ring.within ring.after ring.stand
+
+  pub something : (get_or es c.head 0 ≡ 0 → ⊥) → tasks es c.head ≡ [] → ⊥
+  something = some_when_held es c.head c.tail (length es) refl ring.within ring.after ring.stand
+
+  module _ (v : ℕ) (some : 0 < v) (vacant : get_or es c.tail 0 ≡ 0) where
+    pub put_fills : FillsTail c (tail_on (length es) c) es (set es c.tail v) v
+    put_fills = record {
+      vacant = vacant;
+      room = roomy vacant;
+      entries = refl;
+      cursors = refl;
+      joins = put_tasks es c.head c.tail (length es) refl ring.within ring.after ring.stand v some (roomy vacant);
+    }
+
+    pub put_ring : IsRing (tail_on (length es) c) (set es c.tail v)
+    put_ring = record {
+      within = simp length-set ring.within;
+      after = simp length-set (put_tail es c.head c.tail (length es) refl ring.within ring.after ring.stand v some (roomy vacant));
+      stand = simp length-set (put_together es c.head c.tail (length es) refl ring.within ring.after ring.stand v some (roomy vacant));
+    }
+
+  module _ (some : 0 < get_or es c.head 0) where
+    pub take_vacates : VacatesHead c (head_on (length es) c) es (set es c.head 0) (get_or es c.head 0)
+    take_vacates = record {
+      task = refl;
+      entries = refl;
+      cursors = refl;
+      leaves = take_tasks es c.head c.tail (length es) refl ring.within ring.after ring.stand some;
+    }
+
+    pub take_ring : IsRing (head_on (length es) c) (set es c.head 0)
+    take_ring = record {
+      within = simp length-set (mod-lt (c.head + 1) (omega (arith, ring.within)));
+      after = simp length-set (take_tail es c.head c.tail (length es) refl ring.within ring.after ring.stand some);
+      stand = simp length-set (take_together es c.head c.tail (length es) refl ring.within ring.after ring.stand some);
+    }

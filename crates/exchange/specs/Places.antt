@@ -1,4 +1,5 @@
 -- How the places of a pool stand for the waiting tasks of each pair. Assumes nothing.
+use Rattle.std.specs.List.{copy_within}
 use Rattle.std.specs.Prelude.{ℕ, zero, suc, ◌+◌, ◌-◌, ◌<◌, cond, List, [], ◌∷◌, ◌++◌, length, take, drop, Some, None, Option, ◌==◌, slice_index}
 
 -- the task at place k, if it is one of the pair with number q
@@ -15,14 +16,9 @@ abbrev pub newest_of : ℕ → List ℕ → ℕ → Option ℕ
 newest_of q pairs zero = None
 newest_of q pairs (suc k) = cond (slice_index pairs k == q) (Some k) (newest_of q pairs k)
 
--- a place that is given is one of the first n
-abbrev pub Below : ℕ → Option ℕ → Type 0
-Below n (Some k) = k < n
-Below n None = Unit {0}
-
 -- place k is given up, the places after it, below n, move down by one, and the last of the n keeps what it had
 abbrev pub closed_up : ℕ → ℕ → List ℕ → List ℕ
-closed_up k n xs = take k xs ++ (take (n - suc k) (drop (suc k) xs) ++ drop (n - 1) xs)
+closed_up k n xs = copy_within xs (k + 1) n k
 
 -- how many tasks wait on all pairs with numbers below n together
 abbrev pub waiting_below : (ℕ → List ℕ) → ℕ → ℕ

@@ -1,7 +1,7 @@
 -- The laws of an exchange, of the pool. Assumes nothing.
 use Rattle.std.specs.Prelude.{◌≡◌, ℕ, zero, suc, ◌<◌, ◌≤◌, Bool, true, false, cond, List, [], ◌∷◌, length, ◌==◌, slice_index, refl}
 use Rattle.std.proofs.Common.{ap, subst, arith, length-append}
-use Rattle.exchange.specs.declared.pool_state.Pool.{Pool}
+use Rattle.exchange.specs.declared.pool.Pool.{Pool}
 use Rattle.exchange.specs.Pairs.{Pair, pairs_of, pair_at}
 use Rattle.exchange.specs.Numbers.{pair_of}
 use Rattle.exchange.specs.Places.{task_at, tasks_from, waiting_below}

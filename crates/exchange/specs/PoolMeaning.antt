@@ -1,23 +1,25 @@
 -- What a pool means as an exchange, and what its calls do to its memory. Assumes nothing.
 use Rattle.std.specs.Prelude.{◌≡◌, ℕ, ◌+◌, ◌-◌, ◌<◌, cond, ◌&&◌, List, [], ◌∷◌, ◌++◌, replicate, Some, None, Ok, Err, Option, Result, nat_le, slice_index, slice_set}
+use Rattle.std.specs.Borrow.{GName, MutBor}
 use Rattle.refusal.specs.declared.Refusal.{Refusal}
 use Rattle.refusal.specs.declared.Refusal.TheVariants.{Range, Memory}
 use Rattle.exchange.specs.declared.answer.Put.{Put}
 use Rattle.exchange.specs.declared.answer.Put.TheVariants.{Joined, NoVacancy}
-use Rattle.exchange.specs.declared.pool_state.Pool.{Pool}
+use Rattle.exchange.specs.declared.pool.Pool.{Pool}
 use Rattle.exchange.specs.Pairs.{pairs_of, pair_at}
 use Rattle.exchange.specs.Places.{tasks_from, newest_of, closed_up, waiting_below}
 use Rattle.exchange.specs.Calls.{Queues, Idle}
 
--- The numbers of a pool and what its words and pairs hold, those behind the held places too.
+-- The numbers of a pool, what its words and pairs hold, those behind the held places too, and which lent words they are.
 pub record PoolState : Type 0 where
   pub served : ℕ
   pub held : ℕ
   pub words : List ℕ
   pub pairs : List ℕ
+  pub lender : GName
 
 abbrev pub pool_of : Pool → PoolState
-pool_of p = record { served = p.served; held = p.held; words = p.words.now; pairs = p.pairs }
+pool_of p = record { served = p.served; held = p.held; words = p.words.now; pairs = p.pairs; lender = p.words.ghost_name }
 
 -- the tasks of the pair with number q
 abbrev pub pool_tasks : PoolState → ℕ → List ℕ
@@ -37,20 +39,20 @@ abbrev pub pool_vacant : Pool → ℕ → ℕ → ℕ
 pool_vacant p i j = 1024 - all_waiting (pool_of p)
 
 -- a pool over any words that serves one marker
-abbrev pub pool_over : List ℕ → PoolState
-pool_over words = record { served = 1; held = 0; words = words; pairs = replicate 1024 0 }
+abbrev pub pool_over : MutBor (List ℕ) → PoolState
+pool_over words = record { served = 1; held = 0; words = words.now; pairs = replicate 1024 0; lender = words.ghost_name }
 
 -- a pool as it is made: no place holds a task, and its memory is as it was
 abbrev pub new_pool : ℕ → PoolState → PoolState
-new_pool m s = record { served = m; held = 0; words = s.words; pairs = s.pairs }
+new_pool m s = record s { served = m; held = 0 }
 
 -- the task goes to the first place that holds none
 abbrev pub added_to : ℕ → ℕ → PoolState → PoolState
-added_to q t s = record { served = s.served; held = s.held + 1; words = slice_set s.words s.held t; pairs = slice_set s.pairs s.held q }
+added_to q t s = record s { held = s.held + 1; words = slice_set s.words s.held t; pairs = slice_set s.pairs s.held q }
 
 -- place k is given up
 abbrev pub removed_from : ℕ → PoolState → PoolState
-removed_from k s = record { served = s.served; held = s.held - 1; words = closed_up k s.held s.words; pairs = closed_up k s.held s.pairs }
+removed_from k s = record s { held = s.held - 1; words = closed_up k s.held s.words; pairs = closed_up k s.held s.pairs }
 
 -- what the making of a pool answers, over so many words: the markers are tested, then the memory
 abbrev pub pool_answer : ℕ → ℕ → Result (Unit {0}) Refusal

@@ -1,8 +1,8 @@
 -- The laws of an exchange, of the ring. Assumes nothing.
-use Rattle.std.specs.Prelude.{ℕ, zero, suc, ◌≤◌, List, [], ◌∷◌, length, slice_index}
+use Rattle.std.specs.Prelude.{ℕ, zero, suc, ◌≤◌, List, [], ◌∷◌, length}
 use Rattle.std.proofs.Common.{ap, arith, length-append, length-take, length-drop}
 use Rattle.exchange.specs.Pairs.{pair_at}
-use Rattle.exchange.specs.Entries.{entries_of, turned, filled, tasks}
+use Rattle.exchange.specs.Entries.{entries_of, turned, filled, tasks, cursors_of}
 use Rattle.exchange.specs.Calls.{Laws}
 use Rattle.exchange.specs.RingMeaning.{ring_serves, ring_waiting, ring_vacant}
 
@@ -23,6 +23,6 @@ ring_laws = record {
   serves_at_most_16 = λ r. r.sixteen;
   most_at_least_1 = omega arith;
   most_at_most_4096 = omega arith;
-  lists_at_most = λ r i j p. omega (arith, tasks_short r.length (pair_at r.served i j) (slice_index r.heads (pair_at r.served i j)) r.words.now, r.bounded);
+  lists_at_most = λ r i j p. omega (arith, tasks_short r.length (pair_at r.served i j) (cursors_of (pair_at r.served i j) r.cursors).head r.words.now, r.bounded);
   vacant_when_idle = λ r idle i j p. let e = ap length (idle i j p) in omega (arith, e, r.holds);
 }

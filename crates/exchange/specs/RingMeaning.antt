@@ -1,28 +1,34 @@
 -- What a ring means as an exchange, and what its calls do to its memory. Assumes nothing.
-use Rattle.std.specs.Prelude.{◌≡◌, ℕ, ◌+◌, ◌-◌, ◌*◌, ◌%◌, cond, ◌&&◌, List, ◌∷◌, ◌++◌, length, drop, replicate, Some, None, Ok, Err, Option, Result, ◌≢◌, nat_le, slice_index, slice_set}
+use Rattle.std.specs.Prelude.{◌≡◌, ℕ, ◌+◌, ◌-◌, ◌*◌, cond, ◌&&◌, List, ◌∷◌, ◌++◌, length, drop, replicate, Some, None, Ok, Err, Option, Result, ◌≢◌, nat_le, slice_index, slice_set}
+use Rattle.std.specs.Borrow.{GName, MutBor}
 use Rattle.refusal.specs.declared.Refusal.{Refusal}
 use Rattle.refusal.specs.declared.Refusal.TheVariants.{Range, Memory}
 use Rattle.exchange.specs.declared.answer.Put.{Put}
 use Rattle.exchange.specs.declared.answer.Put.TheVariants.{Joined, NoVacancy}
-use Rattle.exchange.specs.declared.ring_state.Ring.{Ring}
+use Rattle.exchange.specs.declared.cursors.Cursors.{Cursors}
+use Rattle.exchange.specs.declared.ring.Ring.{Ring}
 use Rattle.exchange.specs.Pairs.{pairs_of, pair_at}
-use Rattle.exchange.specs.Entries.{entries_of, tasks}
+use Rattle.exchange.specs.Entries.{entries_of, tasks, start, cursors_of, tail_on, head_on}
 use Rattle.exchange.specs.Calls.{Queues, Idle}
 
--- The numbers of a ring and what its words, heads and tails hold.
+-- The numbers of a ring, what its words and cursors hold, and which lent words they are.
 pub record RingState : Type 0 where
   pub served : ℕ
   pub length : ℕ
   pub words : List ℕ
-  pub heads : List ℕ
-  pub tails : List ℕ
+  pub cursors : List Cursors
+  pub lender : GName
 
 abbrev pub ring_of : Ring → RingState
-ring_of r = record { served = r.served; length = r.length; words = r.words.now; heads = r.heads; tails = r.tails }
+ring_of r = record { served = r.served; length = r.length; words = r.words.now; cursors = r.cursors; lender = r.words.ghost_name }
+
+-- the head and the tail of the pair with number q
+abbrev pub turn : RingState → ℕ → Cursors
+turn s q = cursors_of q s.cursors
 
 -- the tasks of the pair with number q
 abbrev pub ring_tasks : RingState → ℕ → List ℕ
-ring_tasks s q = tasks (entries_of s.length q s.words) (slice_index s.heads q)
+ring_tasks s q = tasks (entries_of s.length q s.words) (turn s q).head
 
 abbrev pub ring_serves : Ring → ℕ
 ring_serves r = r.served
@@ -36,29 +42,23 @@ ring_vacant r i j = r.length - length (ring_waiting r i j)
 
 -- where the entries at the head and at the tail of the pair with number q stand among the words
 abbrev pub head_entry : RingState → ℕ → ℕ
-head_entry s q = q * s.length + slice_index s.heads q
+head_entry s q = q * s.length + (turn s q).head
 
 abbrev pub tail_entry : RingState → ℕ → ℕ
-tail_entry s q = q * s.length + slice_index s.tails q
+tail_entry s q = q * s.length + (turn s q).tail
 
--- the entry after, round past the last
-abbrev pub following : ℕ → ℕ → ℕ
-following len at = (at + 1) % len
-
--- a ring as it is made: every entry vacant, the words behind them as they were; 240 heads and tails, for the pairs of 16 markers
-abbrev pub new_ring : ℕ → ℕ → List ℕ → RingState
+-- a ring as it is made over lent words: every entry vacant, the words behind them as they were; 240 heads and tails, for the pairs of 16 markers
+abbrev pub new_ring : ℕ → ℕ → MutBor (List ℕ) → RingState
 new_ring m len words =
-    record { served = m; length = len; words = replicate (pairs_of m * len) 0 ++ drop (pairs_of m * len) words; heads = replicate 240 0; tails = replicate 240 0 }
+    record { served = m; length = len; words = replicate (pairs_of m * len) 0 ++ drop (pairs_of m * len) words.now; cursors = replicate 240 start; lender = words.ghost_name }
 
 -- the entry at the tail is filled, and the tail moves on
 abbrev pub filled_at_tail : ℕ → ℕ → RingState → RingState
-filled_at_tail q t s =
-    record { served = s.served; length = s.length; words = slice_set s.words (tail_entry s q) t; heads = s.heads; tails = slice_set s.tails q (following s.length (slice_index s.tails q)) }
+filled_at_tail q t s = record s { words = slice_set s.words (tail_entry s q) t; cursors = slice_set s.cursors q (tail_on s.length (turn s q)) }
 
 -- the entry at the head is vacated, and the head moves on
 abbrev pub vacated_at_head : ℕ → RingState → RingState
-vacated_at_head q s =
-    record { served = s.served; length = s.length; words = slice_set s.words (head_entry s q) 0; heads = slice_set s.heads q (following s.length (slice_index s.heads q)); tails = s.tails }
+vacated_at_head q s = record s { words = slice_set s.words (head_entry s q) 0; cursors = slice_set s.cursors q (head_on s.length (turn s q)) }
 
 -- what the making of a ring answers, over so many words: the markers and the length are tested, then the memory
 abbrev pub ring_answer : ℕ → ℕ → ℕ → Result (Unit {0}) Refusal
@@ -67,10 +67,10 @@ ring_answer m len words =
 
 -- a ring that is made holds no task, and a refused making leaves it as it was
 abbrev pub RingMade : ℕ → ℕ → Ring → Ring → Result (Unit {0}) Refusal → Type 0
-RingMade m len r r' (Ok done) = (ring_of r' ≡ new_ring m len r.words.now) × Idle ring_serves ring_waiting r'
+RingMade m len r r' (Ok done) = (ring_of r' ≡ new_ring m len r.words) × Idle ring_serves ring_waiting r'
 RingMade m len r r' (Err e) = r' ≡ r
 
--- what a put and a take leave in words, heads and tails, by the answer, for the pair with number q
+-- what a put and a take leave in words and cursors, by the answer, for the pair with number q
 abbrev pub RingPut : ℕ → ℕ → RingState → RingState → Result Put Refusal → Type 0
 RingPut q t s s' (Ok Joined) = (slice_index s.words (tail_entry s q) ≡ 0) × (s' ≡ filled_at_tail q t s)
 RingPut q t s s' (Ok NoVacancy) = (slice_index s.words (tail_entry s q) ≢ 0) × (s' ≡ s)

@@ -1,5 +1,6 @@
-ghost use Rattle.std.specs.Prelude.{◌≡◌};
-ghost use Rattle.exchange.specs.Calls.{word_of};
+ghost use Rattle.std.specs.Prelude.{Some};
+
+use std::fmt;
 
 // What a put answers: the task has joined its queue, or there was no vacancy.
 #[derive(Clone, Copy, PartialEq, Eq, Debug)]
@@ -8,14 +9,15 @@ pub enum Put {
     NoVacancy,
 }
 
-impl Put {
-    // The word for the answer.
-    pub fn word(self) -> &'static str
-        ensures { result.now ≡ word_of self }
-    {
-        match self {
+impl fmt::Display for Put {
+    ghost use Rattle.exchange.specs.Calls.{word_of};
+
+    ghost output = { λ answer. Some (word_of answer) };
+
+    fn fmt<W: fmt::Write>(&self, f: &mut fmt::Formatter<W>) -> fmt::Result {
+        f.write_str(match self {
             Put::Joined => "joined",
             Put::NoVacancy => "none",
-        }
+        })
     }
 }

@@ -2,14 +2,19 @@
 #![tactic(auto)]
 
 mod answer;
+mod cursors;
 mod meaning;
-mod pairs;
+mod pair;
 mod pool;
-mod pool_state;
 mod ring;
-mod ring_state;
 
 pub use answer::Put;
 pub use meaning::Exchange;
-pub use pool_state::Pool;
-pub use ring_state::Ring;
+pub use pair::Pair;
+pub use pool::Pool;
+pub use ring::Ring;
+
+// The most markers that an exchange serves, and the pairs of so many.
+const MARKERS: usize = 16;
+
+const PAIRS: usize = MARKERS * (MARKERS - 1);

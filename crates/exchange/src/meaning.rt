@@ -2,10 +2,11 @@ ghost use Rattle.std.specs.Prelude.{◌≡◌, ℕ};
 ghost use Rattle.exchange.specs.Calls.{Queues, PutSays, TakeSays, LookSays, Laws};
 
 use crate::answer::Put;
+use crate::pair::Pair;
 use refusal::Refusal;
 
-// An exchange between markers: for each pair <i,j>, i and j different and below the number of markers that it serves, a queue that i
-// fills and j empties. A call with no such pair is refused as unknown, and so is task 0 put.
+// An exchange between markers: for each pair of two markers, both below the number that it serves, a queue that the sender fills and the
+// receiver empties. A call with no such pair is refused as unknown, and so is task 0 put.
 pub trait Exchange {
     // how many markers it serves, 1 to 16
     ghost served: { Self → ℕ };
@@ -25,7 +26,7 @@ pub trait Exchange {
     // The most that one pair holds, 1 to 4,096.
     const MOST: usize;
 
-    // The kind's constant.
+    // The kind's constant. No default: a ghost member that gives the constant is refused at an impl with a lifetime.
     fn capacity() -> usize
         ensures { result ≡ most };
 
@@ -33,15 +34,15 @@ pub trait Exchange {
     fn markers(&self) -> usize
         ensures { result ≡ served self.now };
 
-    // Puts a task at the end of the queue <i,j>, if there is a vacancy.
-    fn put(&mut self, i: usize, j: usize, task: u16) -> Result<Put, Refusal>
-        ensures meaning { PutSays served waiting vacant i j task self.old self.new result };
+    // Puts a task at the end of the pair's queue, if there is a vacancy.
+    fn put(&mut self, pair: Pair, task: u16) -> Result<Put, Refusal>
+        ensures meaning { PutSays served waiting vacant pair.sender pair.receiver task self.old self.new result };
 
-    // Takes one of the tasks that wait on <i,j>, if there is one.
-    fn take(&mut self, i: usize, j: usize) -> Result<Option<u16>, Refusal>
-        ensures meaning { TakeSays served waiting vacant i j self.old self.new result };
+    // Takes one of the tasks that wait on the pair, if there is one.
+    fn take(&mut self, pair: Pair) -> Result<Option<u16>, Refusal>
+        ensures meaning { TakeSays served waiting vacant pair.sender pair.receiver self.old self.new result };
 
-    // Whether nothing waits on <i,j>.
-    fn look(&mut self, i: usize, j: usize) -> Result<bool, Refusal>
-        ensures meaning { LookSays served waiting vacant i j self.old self.new result };
+    // Whether nothing waits on the pair.
+    fn look(&mut self, pair: Pair) -> Result<bool, Refusal>
+        ensures meaning { LookSays served waiting vacant pair.sender pair.receiver self.old self.new result };
 }

@@ -1,21 +1,37 @@
-ghost use Rattle.std.specs.Prelude.{◌≡◌, ◌<◌, length, slice_index};
+ghost use Rattle.std.specs.Prelude.{ℕ, ◌≡◌, ◌<◌, ◌≤◌, length, slice_index, IfSome, IfNone};
 ghost use Rattle.exchange.specs.Pairs.{pairs_of, pair_at};
-ghost use Rattle.exchange.specs.Places.{newest_of, Below};
+ghost use Rattle.exchange.specs.Places.{newest_of};
 ghost use Rattle.exchange.specs.Calls.{PutSays, TakeSays, LookSays};
-ghost use Rattle.exchange.specs.PoolMeaning.{pool_of, pool_over, added_to, removed_from, pool_answer, PoolMade, PoolPut, PoolTake, pool_serves, pool_waiting, pool_vacant};
-ghost use Rattle.exchange.specs.PoolLaws.{pool_laws};
 
+use crate::MARKERS;
 use crate::answer::Put;
 use crate::meaning::Exchange;
-use crate::pairs::pair_number;
-use crate::pool_state::Pool;
+use crate::pair::Pair;
 use refusal::Refusal;
 
+// One pool of 1,024 places for the tasks of all pairs, in order of arrival. The task at a place stands in the lent words, the number of
+// its pair in `pairs`; the first `held` places hold tasks.
+#[derive(Drop)]
+pub struct Pool<'a> {
+    // words and pairs are two arrays, and held stands beside them: the words are the caller's and of fixed length
+    words: &'a mut [u16],
+    served: usize,
+    held: usize,
+    pairs: [u8; 1024],
+    ghost someone: { 1 ≤ served },
+    ghost sixteen: { served ≤ 16 },
+    ghost bounded: { held ≤ 1024 },
+    ghost lent: { held ≤ length words.now },
+    ghost room: { 2 ≤ served → 1024 ≤ length words.now },
+    ghost known: { (k : ℕ) → k < held → slice_index pairs k < pairs_of served },
+}
+
 impl<'a> Pool<'a> {
+    ghost use Rattle.exchange.specs.PoolMeaning.{pool_of, pool_over, added_to, removed_from, pool_answer, PoolMade};
+
     // A pool over any words that serves one marker, and so has no pair: the place that `set_up` fills.
     pub fn over(words: &'a mut [u16]) -> Pool<'a>
-        ensures value { pool_of result ≡ pool_over words.old }
-        ensures lender { result.words.ghost_name ≡ words.entry.ghost_name }
+        ensures { pool_of result ≡ pool_over words.entry }
     {
         Pool {
             words,
@@ -29,12 +45,11 @@ impl<'a> Pool<'a> {
     pub fn set_up(&mut self, m: usize) -> Result<(), Refusal>
         ensures answer { result ≡ pool_answer m (length self.old.words.now) }
         ensures made { PoolMade m self.old self.new result }
-        ensures lender { self.new.words.ghost_name ≡ self.old.words.ghost_name }
     {
-        if m < 1 || m > 16 {
+        if !(1..=MARKERS).contains(&m) {
             return Err(Refusal::Range);
         }
-        if self.words.len() < 1024 {
+        if self.words.len() < Self::MOST {
             return Err(Refusal::Memory);
         }
         self.held = 0;
@@ -43,53 +58,47 @@ impl<'a> Pool<'a> {
     }
 
     // Puts a task of the pair with number `q` at the first place that holds none.
+    #[tactic(auto, using(crate::proofs::PoolSteps::two_serve))]
     fn add(&mut self, q: usize, task: u16)
         requires pair { (q < pairs_of self.old.served) × (q < 240) }
         requires room { self.old.held < 1024 }
-        ensures after { pool_of self.new ≡ added_to q task (pool_of self.old) }
-        ensures lender { self.new.words.ghost_name ≡ self.old.words.ghost_name }
+        ensures { pool_of self.new ≡ added_to q task (pool_of self.old) }
     {
-        let at = self.held;
-        self.words[at] = task;
-        self.pairs[at] = q as u8;
-        self.held = at + 1;
+        self.words[self.held] = task;
+        self.pairs[self.held] = q as u8;
+        self.held += 1;
     }
 
     // The place of the newest task of the pair with number `q`.
     fn newest(&self, q: usize) -> Option<usize>
-        ensures value { result ≡ newest_of q self.now.pairs self.now.held }
-        ensures held { Below self.now.held result }
-        ensures lent { Below (length self.now.words.now) result }
+        ensures found { IfSome result (λ k. slice_index self.now.pairs k ≡ q) }
+        ensures last { IfSome result (λ k. (j : ℕ) → k < j → j < self.now.held → slice_index self.now.pairs j ≡ q → ⊥) }
+        ensures none { IfNone result ((j : ℕ) → j < self.now.held → slice_index self.now.pairs j ≡ q → ⊥) }
+        ensures held { IfSome result (λ k. k < self.now.held) }
     {
-        let mut k = self.held;
-        while k > 0 {
-            k -= 1;
-            if usize::from(self.pairs[k]) == q {
-                return Some(k);
-            }
-        }
-        None
+        self.pairs[..self.held]
+            .iter()
+            .rposition(|p| usize::from(*p) == q)
     }
 
     // Gives up place `k` and gives its task: the places after it move down by one.
     fn remove(&mut self, k: usize) -> u16
-        requires { (k < self.old.held) × (k < length self.old.words.now) }
+        requires { k < self.old.held }
         ensures task { result ≡ slice_index self.old.words.now k }
         ensures after { pool_of self.new ≡ removed_from k (pool_of self.old) }
-        ensures lender { self.new.words.ghost_name ≡ self.old.words.ghost_name }
     {
         let task = self.words[k];
-        let last = self.held - 1;
-        for at in k..last {
-            self.words[at] = self.words[at + 1];
-            self.pairs[at] = self.pairs[at + 1];
-        }
-        self.held = last;
+        self.words.copy_within(k + 1..self.held, k);
+        self.pairs.copy_within(k + 1..self.held, k);
+        self.held -= 1;
         task
     }
 }
 
 impl<'a> Exchange for Pool<'a> {
+    ghost use Rattle.exchange.specs.PoolMeaning.{pool_of, PoolPut, PoolTake, pool_serves, pool_waiting, pool_vacant};
+    ghost use Rattle.exchange.specs.PoolLaws.{pool_laws};
+
     ghost served = { pool_serves };
 
     ghost waiting = { pool_waiting };
@@ -112,12 +121,11 @@ impl<'a> Exchange for Pool<'a> {
         self.served
     }
 
-    fn put(&mut self, i: usize, j: usize, task: u16) -> Result<Put, Refusal>
-        ensures meaning { PutSays pool_serves pool_waiting pool_vacant i j task self.old self.new result }
-        ensures memory { PoolPut (pair_at self.old.served i j) task (pool_of self.old) (pool_of self.new) result }
-        ensures lender { self.new.words.ghost_name ≡ self.old.words.ghost_name }
+    fn put(&mut self, pair: Pair, task: u16) -> Result<Put, Refusal>
+        ensures meaning { PutSays pool_serves pool_waiting pool_vacant pair.sender pair.receiver task self.old self.new result }
+        ensures memory { PoolPut (pair_at self.old.served pair.sender pair.receiver) task (pool_of self.old) (pool_of self.new) result }
     {
-        let q = pair_number(self.served, i, j)?;
+        let q = pair.number(self.served)?;
         if task == 0 {
             return Err(Refusal::Unknown);
         }
@@ -128,26 +136,22 @@ impl<'a> Exchange for Pool<'a> {
         Ok(Put::Joined)
     }
 
-    fn take(&mut self, i: usize, j: usize) -> Result<Option<u16>, Refusal>
-        ensures meaning { TakeSays pool_serves pool_waiting pool_vacant i j self.old self.new result }
-        ensures memory { PoolTake (pair_at self.old.served i j) (pool_of self.old) (pool_of self.new) result }
-        ensures lender { self.new.words.ghost_name ≡ self.old.words.ghost_name }
+    fn take(&mut self, pair: Pair) -> Result<Option<u16>, Refusal>
+        ensures meaning { TakeSays pool_serves pool_waiting pool_vacant pair.sender pair.receiver self.old self.new result }
+        ensures memory { PoolTake (pair_at self.old.served pair.sender pair.receiver) (pool_of self.old) (pool_of self.new) result }
     {
-        let q = pair_number(self.served, i, j)?;
+        let q = pair.number(self.served)?;
         match self.newest(q) {
             Some(k) => Ok(Some(self.remove(k))),
             None => Ok(None),
         }
     }
 
-    fn look(&mut self, i: usize, j: usize) -> Result<bool, Refusal>
-        ensures meaning { LookSays pool_serves pool_waiting pool_vacant i j self.old self.new result }
+    fn look(&mut self, pair: Pair) -> Result<bool, Refusal>
+        ensures meaning { LookSays pool_serves pool_waiting pool_vacant pair.sender pair.receiver self.old self.new result }
         ensures memory { self.new ≡ self.old }
     {
-        let q = pair_number(self.served, i, j)?;
-        match self.newest(q) {
-            Some(_) => Ok(false),
-            None => Ok(true),
-        }
+        let q = pair.number(self.served)?;
+        Ok(self.newest(q).is_none())
     }
 }

@@ -1,20 +1,13 @@
-use Rattle.std.proofs.Common.{◌≤◌, sym, refl, arith}
-use Rattle.exchange.specs.PoolMeaning.{pool_of}
-use Rattle.exchange.proofs.Newest.{nothing_newest}
-use Rattle.exchange.proofs.PoolSteps.{some_wait}
+use Rattle.std.proofs.Common.{◌≡◌, arith, rules}
+use Rattle.std.specs.Prelude.{is_none}
+use Rattle.exchange.proofs.Newest.{newest_is}
+use Rattle.exchange.proofs.PoolSteps.{look_meaning}
 use Rattle.exchange.proofs.pool.PoolExchange.look.Goals as goal
 
-pub returns-in-Some : goal.returns-in-Some
-returns-in-Some c =
+pub returns-clause-meaning : goal.returns-clause-meaning
+returns-clause-meaning c =
     let s = c.args.self.now in
-    let h = c.in_ok-q.ensures in
-    let two : 2 ≤ s.served = omega (arith, h.0) in
-    let w = some_wait (pool_of s) c.in_ok-q.q c.in-Some.field-0 (sym c.in-Some.ensures.value) (omega (arith, s.bounded)) (omega (arith, s.bounded, s.room two)) in
-    record { meaning = (h.0, rw h.1 at w, (refl, λ a b p. (refl, refl))); memory = refl }
-
-pub returns-in-None : goal.returns-in-None
-returns-in-None c =
-    let s = c.args.self.now in
-    let h = c.in_ok-q.ensures in
-    let n = nothing_newest c.in_ok-q.q s.pairs s.words.now s.held (sym c.in-None.ensures.value) in
-    record { meaning = (h.0, rw h.1 at n, (refl, λ a b p. (refl, refl))); memory = refl }
+    let e : c.is_none.result ≡ is_none c.newest.result = search rules in
+    let f = c.newest.ensures in
+    let found = newest_is c.in_ok-q.q s.pairs s.held c.newest.result f.held f.found f.last f.none in
+    rw e (look_meaning s c.args.pair.sender c.args.pair.receiver c.in_ok-q.q c.in_ok-q.ensures (omega (arith, s.bounded)) c.newest.result found)

@@ -1,0 +1,57 @@
+ghost use Rattle.std.specs.Prelude.{◌≡◌, ◌<◌, [], IsTrue, ◌↔◌};
+
+use crate::answer::Put;
+
+// Where the ring of one pair goes on among its entries; 0 marks a vacant entry. A task joins at the tail and leaves at the head.
+#[derive(Clone, Copy, PartialEq, Eq, Debug)]
+pub struct Cursors {
+    pub(crate) head: usize,
+    pub(crate) tail: usize,
+}
+
+impl Cursors {
+    ghost use Rattle.exchange.specs.Entries.{IsRing, PairPut, PairTake, tasks};
+
+    // Puts a task into the entry at the tail, if that is vacant.
+    #[tactic(auto, using(crate::proofs::Turns::is_full, crate::proofs::Turns::put_fills, crate::proofs::Turns::put_ring))]
+    pub(crate) fn put(&mut self, entries: &mut [u16], task: u16) -> Put
+        requires ring { IsRing self.old entries.old }
+        requires some { 0 < task }
+        ensures ring { IsRing self.new entries.new }
+        ensures put { PairPut self.old self.new entries.old entries.new task result }
+    {
+        if entries[self.tail] != 0 {
+            return Put::NoVacancy;
+        }
+        let next = (self.tail + 1) % entries.len();
+        entries[self.tail] = task;
+        self.tail = next;
+        Put::Joined
+    }
+
+    // Takes the task of the entry at the head, if that is filled.
+    #[tactic(auto, using(crate::proofs::Turns::nothing, crate::proofs::Turns::take_vacates, crate::proofs::Turns::take_ring))]
+    pub(crate) fn take(&mut self, entries: &mut [u16]) -> Option<u16>
+        requires { IsRing self.old entries.old }
+        ensures ring { IsRing self.new entries.new }
+        ensures taken { PairTake self.old self.new entries.old entries.new result }
+    {
+        let task = entries[self.head];
+        if task == 0 {
+            return None;
+        }
+        let next = (self.head + 1) % entries.len();
+        entries[self.head] = 0;
+        self.head = next;
+        Some(task)
+    }
+
+    // Whether the entry at the head is vacant.
+    #[tactic(auto, using(crate::proofs::Turns::nothing, crate::proofs::Turns::something))]
+    pub(crate) fn is_empty(self, entries: &[u16]) -> bool
+        requires { IsRing self entries.now }
+        ensures { IsTrue result ↔ (tasks entries.now self.head ≡ []) }
+    {
+        entries[self.head] == 0
+    }
+}
