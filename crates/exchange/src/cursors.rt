@@ -10,6 +10,9 @@ pub struct Cursors {
 }
 
 impl Cursors {
+    // Where a ring with vacant entries begins.
+    pub(crate) const START: Cursors = Cursors { head: 0, tail: 0 };
+
     ghost use Rattle.exchange.specs.Entries.{IsRing, PairPut, PairTake, tasks};
 
     // Puts a task into the entry at the tail, if that is vacant.

@@ -9,15 +9,18 @@ use crate::meaning::Exchange;
 use crate::pair::Pair;
 use refusal::Refusal;
 
+// How many places a pool has.
+const PLACES: usize = 1024;
+
 // One pool of 1,024 places for the tasks of all pairs, in order of arrival. The task at a place stands in the lent words, the number of
 // its pair in `pairs`; the first `held` places hold tasks.
+// Two arrays and a length beside them, since the words are the caller's, of fixed length, and nothing else stands in them.
 #[derive(Drop)]
 pub struct Pool<'a> {
-    // words and pairs are two arrays, and held stands beside them: the words are the caller's and of fixed length
     words: &'a mut [u16],
     served: usize,
     held: usize,
-    pairs: [u8; 1024],
+    pairs: [u8; PLACES],
     ghost someone: { 1 ≤ served },
     ghost sixteen: { served ≤ 16 },
     ghost bounded: { held ≤ 1024 },
@@ -37,7 +40,7 @@ impl<'a> Pool<'a> {
             words,
             served: 1,
             held: 0,
-            pairs: [0; 1024],
+            pairs: [0; PLACES],
         }
     }
 
@@ -109,7 +112,7 @@ impl<'a> Exchange for Pool<'a> {
 
     ghost laws = { pool_laws };
 
-    const MOST: usize = 1024;
+    const MOST: usize = PLACES;
 
     fn capacity() -> usize
         ensures { result ≡ 1024 }
@@ -141,6 +144,7 @@ impl<'a> Exchange for Pool<'a> {
         ensures memory { PoolTake (pair_at self.old.served pair.sender pair.receiver) (pool_of self.old) (pool_of self.new) result }
     {
         let q = pair.number(self.served)?;
+        // no `map`: a proof loses the pool behind a closure that changes it
         match self.newest(q) {
             Some(k) => Ok(Some(self.remove(k))),
             None => Ok(None),

@@ -36,7 +36,7 @@ impl<'a> Ring<'a> {
             words,
             served: 1,
             length: 1,
-            cursors: [Cursors { head: 0, tail: 0 }; PAIRS],
+            cursors: [Cursors::START; PAIRS],
         }
     }
 
@@ -55,7 +55,7 @@ impl<'a> Ring<'a> {
         self.words[..n].fill(0);
         self.served = m;
         self.length = length;
-        self.cursors = [Cursors { head: 0, tail: 0 }; PAIRS];
+        self.cursors = [Cursors::START; PAIRS];
         Ok(())
     }
 
