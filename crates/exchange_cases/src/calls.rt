@@ -1,49 +1,61 @@
-use crate::line::Line;
-use exchange::{Exchange, Put};
+use crate::command::Call;
+use exchange::{Exchange, Pair, Put};
 use refusal::Refusal;
 use std::alloc::{AllocError, Global};
 
 // The line of a refusal.
-pub fn refused(memory: Global, refusal: Refusal) -> Result<String, AllocError> {
+fn refused(memory: Global, refusal: Refusal) -> Result<String, AllocError> {
     format!(in memory; "refused={}", refusal.number())
+}
+
+// The line of an exchange that is made.
+pub fn made(memory: Global, made: Result<(), Refusal>) -> Result<String, AllocError> {
+    match made {
+        Ok(()) => String::from_str(memory, "made"),
+        Err(refusal) => refused(memory, refusal),
+    }
 }
 
 fn put<X: Exchange>(
     memory: Global,
     x: &mut X,
-    i: usize,
-    j: usize,
+    pair: Pair,
     task: u16,
 ) -> Result<String, AllocError> {
-    match x.put(i, j, task) {
-        Ok(answer) => String::from_str(memory, answer.word()),
+    match x.put(pair, task) {
+        Ok(answer) => format!(in memory; "{answer}"),
         Err(refusal) => refused(memory, refusal),
     }
 }
 
-fn take<X: Exchange>(memory: Global, x: &mut X, i: usize, j: usize) -> Result<String, AllocError> {
-    match x.take(i, j) {
+fn take<X: Exchange>(memory: Global, x: &mut X, pair: Pair) -> Result<String, AllocError> {
+    match x.take(pair) {
         Ok(Some(task)) => format!(in memory; "task={task}"),
         Ok(None) => String::from_str(memory, "nothing"),
         Err(refusal) => refused(memory, refusal),
     }
 }
 
-fn look<X: Exchange>(memory: Global, x: &mut X, i: usize, j: usize) -> Result<String, AllocError> {
-    match x.look(i, j) {
+fn look<X: Exchange>(memory: Global, x: &mut X, pair: Pair) -> Result<String, AllocError> {
+    match x.look(pair) {
         Ok(true) => String::from_str(memory, "yes"),
         Ok(false) => String::from_str(memory, "no"),
         Err(refusal) => refused(memory, refusal),
     }
 }
 
-// Many puts, of tasks that count up, and how many had each answer.
-fn puts<X: Exchange>(memory: Global, x: &mut X, line: &Line) -> Result<String, AllocError> {
-    let [i, j, first, times] = line.numbers;
+// Many puts, of tasks that count up modulo 65,536, and how many had each answer.
+fn puts<X: Exchange>(
+    memory: Global,
+    x: &mut X,
+    pair: Pair,
+    first: usize,
+    times: usize,
+) -> Result<String, AllocError> {
     let (mut joined, mut none, mut refused) = (0u64, 0u64, 0u64);
     let mut task = (first % 65536) as u16;
     for _ in 0..times {
-        match x.put(i, j, task) {
+        match x.put(pair, task) {
             Ok(Put::Joined) => joined = joined.saturating_add(1),
             Ok(Put::NoVacancy) => none = none.saturating_add(1),
             Err(_) => refused = refused.saturating_add(1),
@@ -54,16 +66,17 @@ fn puts<X: Exchange>(memory: Global, x: &mut X, line: &Line) -> Result<String, A
 }
 
 // Many takes: the tasks, and how many takes gave none.
-fn takes<X: Exchange>(memory: Global, x: &mut X, line: &Line) -> Result<String, AllocError> {
-    let [i, j, times, _] = line.numbers;
+fn takes<X: Exchange>(
+    memory: Global,
+    x: &mut X,
+    pair: Pair,
+    times: usize,
+) -> Result<String, AllocError> {
     let mut given = String::new(memory);
     let (mut nothing, mut refused) = (0u64, 0u64);
     for _ in 0..times {
-        match x.take(i, j) {
-            Ok(Some(task)) => {
-                let word = format!(in memory; "{task} ")?;
-                given.push_str(word.as_str())?;
-            }
+        match x.take(pair) {
+            Ok(Some(task)) => write!(given, "{task} ")?,
             Ok(None) => nothing = nothing.saturating_add(1),
             Err(_) => refused = refused.saturating_add(1),
         }
@@ -71,17 +84,15 @@ fn takes<X: Exchange>(memory: Global, x: &mut X, line: &Line) -> Result<String, 
     format!(in memory; "{given}nothing={nothing} refused={refused}")
 }
 
-// Makes the call of a line on any exchange, and gives the line of answer.
-pub fn call<X: Exchange>(memory: Global, x: &mut X, line: &Line) -> Result<String, AllocError> {
-    let [i, j, task, _] = line.numbers;
-    match (line.word, line.count) {
-        ("put", 3) if task < 65536 => put(memory, x, i, j, task as u16),
-        ("take", 2) => take(memory, x, i, j),
-        ("look", 2) => look(memory, x, i, j),
-        ("puts", 4) => puts(memory, x, line),
-        ("takes", 3) => takes(memory, x, line),
-        ("markers", 0) => format!(in memory; "{}", x.markers()),
-        ("most", 0) => format!(in memory; "{}", X::capacity()),
-        _ => String::from_str(memory, "what?"),
+// Makes the call on any exchange, and gives the line of answer.
+pub fn answer<X: Exchange>(memory: Global, x: &mut X, call: Call) -> Result<String, AllocError> {
+    match call {
+        Call::Put { pair, task } => put(memory, x, pair, task),
+        Call::Take { pair } => take(memory, x, pair),
+        Call::Look { pair } => look(memory, x, pair),
+        Call::Puts { pair, first, times } => puts(memory, x, pair, first, times),
+        Call::Takes { pair, times } => takes(memory, x, pair, times),
+        Call::Markers => format!(in memory; "{}", x.markers()),
+        Call::Most => format!(in memory; "{}", X::capacity()),
     }
 }

@@ -2,11 +2,11 @@
 #![tactic(auto)]
 
 mod calls;
-mod line;
+mod command;
 
-use calls::{call, refused};
+use calls::{answer, made};
+use command::Command;
 use exchange::{Pool, Ring};
-use line::{Line, parse};
 use std::alloc::{AllocError, Global};
 use std::io::Read;
 
@@ -19,28 +19,43 @@ enum Kind {
     Poor,
 }
 
-// The exchange that a line makes.
-fn made_by(line: &Line) -> Option<Kind> {
-    match (line.word, line.count) {
-        ("ring", 2) => Some(Kind::Ring),
-        ("short", 2) => Some(Kind::Short),
-        ("pool", 1) => Some(Kind::Pool),
-        ("poor", 1) => Some(Kind::Poor),
-        _ => None,
-    }
+// The exchanges of a script, and which of them is in use.
+#[derive(Drop)]
+struct Exchanges<'a> {
+    ring: Ring<'a>,
+    short: Ring<'a>,
+    pool: Pool<'a>,
+    poor: Pool<'a>,
+    used: Kind,
 }
 
-fn make_ring(memory: Global, ring: &mut Ring, line: &Line) -> Result<String, AllocError> {
-    match ring.set_up(line.numbers[0], line.numbers[1]) {
-        Ok(()) => String::from_str(memory, "made"),
-        Err(refusal) => refused(memory, refusal),
-    }
-}
-
-fn make_pool(memory: Global, pool: &mut Pool, line: &Line) -> Result<String, AllocError> {
-    match pool.set_up(line.numbers[0]) {
-        Ok(()) => String::from_str(memory, "made"),
-        Err(refusal) => refused(memory, refusal),
+impl Exchanges<'_> {
+    // Carries out a command, and gives the line of answer.
+    fn run(&mut self, memory: Global, command: Command) -> Result<String, AllocError> {
+        match command {
+            Command::Ring { markers, length } => {
+                self.used = Kind::Ring;
+                made(memory, self.ring.set_up(markers, length))
+            }
+            Command::Short { markers, length } => {
+                self.used = Kind::Short;
+                made(memory, self.short.set_up(markers, length))
+            }
+            Command::Pool { markers } => {
+                self.used = Kind::Pool;
+                made(memory, self.pool.set_up(markers))
+            }
+            Command::Poor { markers } => {
+                self.used = Kind::Poor;
+                made(memory, self.poor.set_up(markers))
+            }
+            Command::Call(call) => match self.used {
+                Kind::Ring => answer(memory, &mut self.ring, call),
+                Kind::Short => answer(memory, &mut self.short, call),
+                Kind::Pool => answer(memory, &mut self.pool, call),
+                Kind::Poor => answer(memory, &mut self.poor, call),
+            },
+        }
     }
 }
 
@@ -49,29 +64,21 @@ fn main(rt: HostRuntime) -> anyhow::Result<()> {
     rt.stdin().read_to_string(&mut script)?;
     let (mut wide, mut narrow) = ([9u16; 15360], [9u16; 12]);
     let (mut enough, mut scarce) = ([9u16; 1024], [9u16; 1023]);
-    let mut ring = Ring::over(&mut wide);
-    let mut short = Ring::over(&mut narrow);
-    let mut pool = Pool::over(&mut enough);
-    let mut poor = Pool::over(&mut scarce);
-    let mut kind = Kind::Ring;
-    for text in script.as_str().lines() {
-        if text.is_empty() || text.starts_with('#') {
+    let mut exchanges = Exchanges {
+        ring: Ring::over(&mut wide),
+        short: Ring::over(&mut narrow),
+        pool: Pool::over(&mut enough),
+        poor: Pool::over(&mut scarce),
+        used: Kind::Ring,
+    };
+    for line in script.as_str().lines() {
+        if line.is_empty() || line.starts_with('#') {
             continue;
         }
-        let line = parse(text);
-        let made = made_by(&line);
-        kind = made.unwrap_or(kind);
-        let said = match (kind, made.is_some()) {
-            (Kind::Ring, true) => make_ring(rt.alloc(), &mut ring, &line)?,
-            (Kind::Short, true) => make_ring(rt.alloc(), &mut short, &line)?,
-            (Kind::Pool, true) => make_pool(rt.alloc(), &mut pool, &line)?,
-            (Kind::Poor, true) => make_pool(rt.alloc(), &mut poor, &line)?,
-            (Kind::Ring, false) => call(rt.alloc(), &mut ring, &line)?,
-            (Kind::Short, false) => call(rt.alloc(), &mut short, &line)?,
-            (Kind::Pool, false) => call(rt.alloc(), &mut pool, &line)?,
-            (Kind::Poor, false) => call(rt.alloc(), &mut poor, &line)?,
-        };
-        rt.println(said.as_str())?;
+        match line.parse() {
+            Ok(command) => rt.println(exchanges.run(rt.alloc(), command)?.as_str())?,
+            Err(_) => rt.println("what?")?,
+        }
     }
     Ok(())
 }
