@@ -1,5 +1,5 @@
 -- A ring whose entries are all vacant: nothing waits, and it keeps what a ring keeps. Assumes nothing.
-use Rattle.std.proofs.Common.{◌≡◌, ℕ, ◌+◌, ◌-◌, ◌*◌, ◌<◌, ◌≤◌, List, [], ◌++◌, length, get_or, take, drop, replicate, sym, ap, ◌∙◌, mod-eq_of_lt, arith, length-append}
+use Rattle.std.proofs.Common.{◌≡◌, ℕ, ◌+◌, ◌-◌, ◌*◌, ◌<◌, ◌≤◌, List, [], ◌++◌, length, take, drop, replicate, sym, ap, ◌∙◌, mod-eq_of_lt, arith, length-append}
 use Rattle.std.specs.Borrow.{MutBor}
 use lib.ListN.{length-replicate}
 use Rattle.std.proofs.lemmas.List.{drop-append-le, drop-replicate, take-append-le, take-replicate, get_or-replicate, append-nil}

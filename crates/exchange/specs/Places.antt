@@ -1,6 +1,6 @@
 -- How the places of a pool stand for the waiting tasks of each pair. Assumes nothing.
 use Rattle.std.specs.List.{copy_within}
-use Rattle.std.specs.Prelude.{ℕ, zero, suc, ◌+◌, ◌-◌, ◌<◌, cond, List, [], ◌∷◌, ◌++◌, length, take, drop, Some, None, Option, ◌==◌, slice_index}
+use Rattle.std.specs.Prelude.{ℕ, zero, suc, ◌+◌, cond, List, [], ◌∷◌, ◌++◌, length, Some, None, Option, ◌==◌, slice_index}
 
 -- the task at place k, if it is one of the pair with number q
 abbrev pub task_at : ℕ → List ℕ → List ℕ → ℕ → List ℕ

@@ -1,5 +1,5 @@
 -- A ring is set up with vacant entries. Assumes nothing.
-use Rattle.std.proofs.Common.{◌≡◌, ◌≤◌, ◌++◌, ◌*◌, ◌-◌, length, drop, replicate, ap, refl, arith, rules}
+use Rattle.std.proofs.Common.{◌≡◌, ◌≤◌, ◌++◌, ◌*◌, ◌-◌, drop, replicate, ap, arith, rules}
 use Rattle.exchange.specs.Entries.{start}
 use Rattle.exchange.specs.Pairs.{pair_at}
 use Rattle.exchange.proofs.Pairings.{number_lt, pairs_few}

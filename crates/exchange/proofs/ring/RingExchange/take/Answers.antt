@@ -1,6 +1,6 @@
 -- A take renews the ring of its pair. Assumes nothing.
-use Rattle.std.proofs.Common.{refl, arith, rules}
-use Rattle.exchange.proofs.RingSteps.{lent_within, take_rings, take_memory, take_meaning}
+use Rattle.std.proofs.Common.{refl, arith}
+use Rattle.exchange.proofs.RingSteps.{take_rings, take_memory, take_meaning}
 use Rattle.exchange.proofs.ring.RingExchange.take.Goals as goal
 
 pub invariant_of-self : goal.invariant_of-self
