@@ -5,7 +5,7 @@ use lib.ListN.{length-replicate}
 use Rattle.std.proofs.lemmas.List.{drop-append-le, drop-replicate, take-append-le, take-replicate, get_or-replicate, append-nil}
 use Rattle.exchange.specs.Pairs.{pairs_of}
 use Rattle.exchange.specs.Entries.{entries_of, filled, tasks, start, IsRing}
-use Rattle.exchange.specs.RingMeaning.{new_ring, turn, ring_tasks}
+use Rattle.exchange.specs.RingMeaning.{new_ring, pair_cursors, ring_tasks}
 use Rattle.exchange.proofs.EntryParts.{row_le}
 use Rattle.exchange.proofs.Turns.{filled_zeros}
 use Rattle.exchange.proofs.RingSteps.{Rings}
@@ -33,7 +33,7 @@ module _ (m len : ℕ) (words : MutBor (List ℕ)) (holds : 1 ≤ len) (few : pa
   vacant : (q : ℕ) → q < pairs_of m → entries_of len q (new_ring m len words).words ≡ replicate len 0
   vacant q l = vacant_entries (pairs_of m * len) q len (drop (pairs_of m * len) words.now) (row_le q (pairs_of m) len l)
 
-  at_start : (q : ℕ) → q < pairs_of m → turn (new_ring m len words) q ≡ start
+  at_start : (q : ℕ) → q < pairs_of m → pair_cursors (new_ring m len words) q ≡ start
   at_start q l = get_or-replicate 240 q start start (omega arith)
 
   pub none_wait : (q : ℕ) → q < pairs_of m → ring_tasks (new_ring m len words) q ≡ []

@@ -13,14 +13,14 @@ use Rattle.exchange.specs.declared.ring.Ring.{Ring}
 use Rattle.exchange.specs.Pairs.{Pair, pairs_of, pair_at, Numbered}
 use Rattle.exchange.specs.Calls.{Queues, Joins, Leaves, PutSays, TakeSays}
 use Rattle.exchange.specs.Entries.{entries_of, tasks, start, cursors_of, IsRing, FillsTail, VacatesHead, Unchanged, PairPut, PairTake}
-use Rattle.exchange.specs.RingMeaning.{RingState, ring_of, turn, ring_tasks, head_entry, tail_entry, filled_at_tail, vacated_at_head, RingPut, RingTake, ring_serves, ring_waiting, ring_vacant}
+use Rattle.exchange.specs.RingMeaning.{RingState, ring_of, pair_cursors, ring_tasks, head_entry, tail_entry, filled_at_tail, vacated_at_head, RingPut, RingTake, ring_serves, ring_waiting, ring_vacant}
 use Rattle.exchange.proofs.Pairings.{number_same}
 use Rattle.exchange.proofs.EntryParts.{row_within, part_length, part_at, part_same, part_set, words_length, part_here, entries_other}
 
 -- every pair has its ring
 pub record Rings (s : RingState) : Type 0 where
   pub room : pairs_of s.served * s.length ≤ length s.words
-  pub each : (q : ℕ) → q < pairs_of s.served → IsRing (turn s q) (entries_of s.length q s.words)
+  pub each : (q : ℕ) → q < pairs_of s.served → IsRing (pair_cursors s q) (entries_of s.length q s.words)
 
 pub rings : (r : Ring) → Rings (ring_of r)
 rings r = record { room = r.room; each = r.rings }
@@ -44,7 +44,7 @@ module _ (s : RingState) (keeps : Rings s) (q : ℕ) (ql : q < pairs_of s.served
     abbrev pub with_ring : RingState
     with_ring = record s { words = put_mid (q * s.length) (q * s.length + s.length - q * s.length) s.words es; cursors = set s.cursors q c }
 
-    cursors_here : turn with_ring q ≡ c
+    cursors_here : pair_cursors with_ring q ≡ c
     cursors_here = get_or-set_same s.cursors q c start few
 
     entries_here : entries_of s.length q with_ring.words ≡ es
@@ -53,7 +53,7 @@ module _ (s : RingState) (keeps : Rings s) (q : ℕ) (ql : q < pairs_of s.served
     entries_there : (o : ℕ) → (o ≡ q → ⊥) → entries_of s.length o with_ring.words ≡ entries_of s.length o s.words
     entries_there o ne = entries_other s.words es s.length q o within (same ∙ long) ne
 
-    cursors_there : (o : ℕ) → (o ≡ q → ⊥) → turn with_ring o ≡ turn s o
+    cursors_there : (o : ℕ) → (o ≡ q → ⊥) → pair_cursors with_ring o ≡ pair_cursors s o
     cursors_there o ne = get_or-set_other s.cursors q o c start ne
 
     pub rings_with : IsRing c es → Rings with_ring
@@ -75,13 +75,13 @@ module _ (s : RingState) (keeps : Rings s) (q : ℕ) (ql : q < pairs_of s.served
       others : (a b : ℕ) → Pair s.served a b → (a ≡ i → b ≡ j → ⊥) → queues with_ring a b ≡ queues s a b
       others a b r ne = tasks_there (pair_at s.served a b) (λ same. let k = number_same s.served i j a b p r (same ∙ e) in ne k.0 k.1)
 
-      pub joins : (t : ℕ) → FillsTail (turn s q) c entries es t → Joins s.served i j t (queues s) (queues with_ring)
+      pub joins : (t : ℕ) → FillsTail (pair_cursors s q) c entries es t → Joins s.served i j t (queues s) (queues with_ring)
       joins t f = record {
         here = subst (λ k. ring_tasks with_ring k ≡ ring_tasks s k ++ (t ∷ [])) e (tasks_here ∙ f.joins);
         others = others;
       }
 
-      pub leaves : (t : ℕ) → VacatesHead (turn s q) c entries es t → Leaves s.served i j t (queues s) (queues with_ring)
+      pub leaves : (t : ℕ) → VacatesHead (pair_cursors s q) c entries es t → Leaves s.served i j t (queues s) (queues with_ring)
       leaves t v = record {
         front = [];
         back = queues with_ring i j;
@@ -90,16 +90,16 @@ module _ (s : RingState) (keeps : Rings s) (q : ℕ) (ql : q < pairs_of s.served
         others = others;
       }
 
-    pub is_filled : (t : ℕ) → (turn s q).tail < length entries → FillsTail (turn s q) c entries es t → with_ring ≡ filled_at_tail q t s
+    pub is_filled : (t : ℕ) → (pair_cursors s q).tail < length entries → FillsTail (pair_cursors s q) c entries es t → with_ring ≡ filled_at_tail q t s
     is_filled t l f =
         let w : put_mid (q * s.length) (q * s.length + s.length - q * s.length) s.words es ≡ set s.words (tail_entry s q) t =
-        ap (put_mid (q * s.length) (q * s.length + s.length - q * s.length) s.words) f.entries ∙ part_set s.words [] s.length (q * s.length) within (turn s q).tail t (rw long at l) in
+        ap (put_mid (q * s.length) (q * s.length + s.length - q * s.length) s.words) f.entries ∙ part_set s.words [] s.length (q * s.length) within (pair_cursors s q).tail t (rw long at l) in
         cc (w, f.cursors, long)
 
-    pub is_vacated : (t : ℕ) → (turn s q).head < length entries → VacatesHead (turn s q) c entries es t → with_ring ≡ vacated_at_head q s
+    pub is_vacated : (t : ℕ) → (pair_cursors s q).head < length entries → VacatesHead (pair_cursors s q) c entries es t → with_ring ≡ vacated_at_head q s
     is_vacated t l v =
         let w : put_mid (q * s.length) (q * s.length + s.length - q * s.length) s.words es ≡ set s.words (head_entry s q) 0 =
-        ap (put_mid (q * s.length) (q * s.length + s.length - q * s.length) s.words) v.entries ∙ part_set s.words [] s.length (q * s.length) within (turn s q).head 0 (rw long at l) in
+        ap (put_mid (q * s.length) (q * s.length + s.length - q * s.length) s.words) v.entries ∙ part_set s.words [] s.length (q * s.length) within (pair_cursors s q).head 0 (rw long at l) in
         cc (w, v.cursors, long)
 
 -- rings with the same words, numbers and cursors are the same
@@ -148,15 +148,15 @@ module _ (r : Ring) (q : ℕ) (l : q < pairs_of r.served) (few : q < length r.cu
   pub lent_within : q * r.length + r.length ≤ length r.words.now
   lent_within = row_within q (pairs_of r.served) r.length r.words.now l r.room
 
-  pub put_rings : (t : ℕ) (a : Put) → PairPut (turn (ring_of r) q) c (lent q r) es t a → IsRing c es → Rings renewed
+  pub put_rings : (t : ℕ) (a : Put) → PairPut (pair_cursors (ring_of r) q) c (lent q r) es t a → IsRing c es → Rings renewed
   put_rings t a f ring = rings_with (ring_of r) (rings r) q l c es (put_length _ c _ es t a f ∙ ap length (lent_is q r)) few ring
 
-  pub take_rings : (a : Option ℕ) → PairTake (turn (ring_of r) q) c (lent q r) es a → IsRing c es → Rings renewed
+  pub take_rings : (a : Option ℕ) → PairTake (pair_cursors (ring_of r) q) c (lent q r) es a → IsRing c es → Rings renewed
   take_rings a v ring = rings_with (ring_of r) (rings r) q l c es (take_length _ c _ es a v ∙ ap length (lent_is q r)) few ring
 
 module _ (r : Ring) (i j q : ℕ) (n : Numbered r.served i j (Ok q)) (few : q < length r.cursors) (c : Cursors) (es : List ℕ) where
   abbrev own : Cursors
-  own = turn (ring_of r) q
+  own = pair_cursors (ring_of r) q
 
   abbrev held : List ℕ
   held = entries_of r.length q r.words.now

@@ -38,7 +38,7 @@ start = record { head = 0; tail = 0 }
 abbrev pub cursors_of : ℕ → List Cursors → Cursors
 cursors_of q cursors = slice_index_or cursors q start
 
--- what the ring of one pair keeps
+-- what the ring of one pair keeps, of its cursors and its entries
 pub record IsRing (c : Cursors) (entries : List ℕ) : Type 0 where
   pub within : c.head < length entries
   pub after : TailAfter (length entries) entries c.head c.tail
@@ -48,9 +48,11 @@ pub record IsRing (c : Cursors) (entries : List ℕ) : Type 0 where
 abbrev pub following : ℕ → ℕ → ℕ
 following len at = (at + 1) % len
 
+-- the tail moves on by one entry
 abbrev pub tail_on : ℕ → Cursors → Cursors
 tail_on len c = record { head = c.head; tail = following len c.tail }
 
+-- the head moves on by one entry
 abbrev pub head_on : ℕ → Cursors → Cursors
 head_on len c = record { head = following len c.head; tail = c.tail }
 
@@ -71,13 +73,16 @@ module _ (c c' : Cursors) (es es' : List ℕ) where
     pub cursors : c' ≡ head_on (length es) c
     pub leaves : tasks es c.head ≡ t ∷ tasks es' c'.head
 
+  -- nothing is changed
   abbrev pub Unchanged : Type 0
   Unchanged = (c' ≡ c) × (es' ≡ es)
 
+  -- what a put of t leaves, by its answer: refused only where every entry holds a task
   abbrev pub PairPut : ℕ → Put → Type 0
   PairPut t Joined = FillsTail t
   PairPut t NoVacancy = (slice_index es c.tail ≢ 0) × (length es ≤ length (tasks es c.head)) × Unchanged
 
+  -- what a take leaves, by its answer: nothing is given only where nothing waits
   abbrev pub PairTake : Option ℕ → Type 0
   PairTake (Some t) = VacatesHead t
   PairTake None = (slice_index es c.head ≡ 0) × (tasks es c.head ≡ []) × Unchanged

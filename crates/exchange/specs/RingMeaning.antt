@@ -23,12 +23,12 @@ abbrev pub ring_of : Ring → RingState
 ring_of r = record { served = r.served; length = r.length; words = r.words.now; cursors = r.cursors; lender = r.words.ghost_name }
 
 -- the head and the tail of the pair with number q
-abbrev pub turn : RingState → ℕ → Cursors
-turn s q = cursors_of q s.cursors
+abbrev pub pair_cursors : RingState → ℕ → Cursors
+pair_cursors s q = cursors_of q s.cursors
 
 -- the tasks of the pair with number q
 abbrev pub ring_tasks : RingState → ℕ → List ℕ
-ring_tasks s q = tasks (entries_of s.length q s.words) (turn s q).head
+ring_tasks s q = tasks (entries_of s.length q s.words) (pair_cursors s q).head
 
 abbrev pub ring_serves : Ring → ℕ
 ring_serves r = r.served
@@ -42,10 +42,10 @@ ring_vacant r i j = r.length - length (ring_waiting r i j)
 
 -- where the entries at the head and at the tail of the pair with number q stand among the words
 abbrev pub head_entry : RingState → ℕ → ℕ
-head_entry s q = q * s.length + (turn s q).head
+head_entry s q = q * s.length + (pair_cursors s q).head
 
 abbrev pub tail_entry : RingState → ℕ → ℕ
-tail_entry s q = q * s.length + (turn s q).tail
+tail_entry s q = q * s.length + (pair_cursors s q).tail
 
 -- a ring as it is made over lent words: every entry vacant, the words behind them as they were; 240 heads and tails, for the pairs of 16 markers
 abbrev pub new_ring : ℕ → ℕ → MutBor (List ℕ) → RingState
@@ -54,11 +54,11 @@ new_ring m len words =
 
 -- the entry at the tail is filled, and the tail moves on
 abbrev pub filled_at_tail : ℕ → ℕ → RingState → RingState
-filled_at_tail q t s = record s { words = slice_set s.words (tail_entry s q) t; cursors = slice_set s.cursors q (tail_on s.length (turn s q)) }
+filled_at_tail q t s = record s { words = slice_set s.words (tail_entry s q) t; cursors = slice_set s.cursors q (tail_on s.length (pair_cursors s q)) }
 
 -- the entry at the head is vacated, and the head moves on
 abbrev pub vacated_at_head : ℕ → RingState → RingState
-vacated_at_head q s = record s { words = slice_set s.words (head_entry s q) 0; cursors = slice_set s.cursors q (head_on s.length (turn s q)) }
+vacated_at_head q s = record s { words = slice_set s.words (head_entry s q) 0; cursors = slice_set s.cursors q (head_on s.length (pair_cursors s q)) }
 
 -- what the making of a ring answers, over so many words: the markers and the length are tested, then the memory
 abbrev pub ring_answer : ℕ → ℕ → ℕ → Result (Unit {0}) Refusal

@@ -2,11 +2,11 @@ ghost use Rattle.std.specs.Prelude.{◌≡◌, ◌<◌, [], IsTrue, ◌↔◌};
 
 use crate::answer::Put;
 
-// Where the ring of one pair goes on among its entries; 0 marks a vacant entry. A task joins at the tail and leaves at the head.
+// Where the ring of one pair goes on among its entries: a task joins at the tail and leaves at the head. 0 marks a vacant entry.
 #[derive(Clone, Copy, PartialEq, Eq, Debug)]
-pub struct Cursors {
-    pub(crate) head: usize,
-    pub(crate) tail: usize,
+pub(crate) struct Cursors {
+    head: usize,
+    tail: usize,
 }
 
 impl Cursors {

@@ -11,13 +11,13 @@ pub struct Pair {
 }
 
 impl Pair {
-    // Its number among the pairs of `m` markers.
-    pub(crate) fn number(self, m: usize) -> Result<usize, Refusal>
-        requires { m ≤ 16 }
-        ensures { Numbered m self.sender self.receiver result }
+    // Its number among the pairs of so many markers.
+    pub(crate) fn number(self, markers: usize) -> Result<usize, Refusal>
+        requires { markers ≤ 16 }
+        ensures { Numbered markers self.sender self.receiver result }
     {
         let Pair { sender, receiver } = self;
-        if sender >= m || receiver >= m || sender == receiver {
+        if sender >= markers || receiver >= markers || sender == receiver {
             return Err(Refusal::Unknown);
         }
         let column = if receiver < sender {
@@ -25,6 +25,6 @@ impl Pair {
         } else {
             receiver - 1
         };
-        Ok(sender * (m - 1) + column)
+        Ok(sender * (markers - 1) + column)
     }
 }

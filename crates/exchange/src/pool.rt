@@ -44,19 +44,19 @@ impl<'a> Pool<'a> {
         }
     }
 
-    // Makes it a pool that serves `m` markers, and in which nothing waits.
-    pub fn set_up(&mut self, m: usize) -> Result<(), Refusal>
-        ensures answer { result ≡ pool_answer m (length self.old.words.now) }
-        ensures made { PoolMade m self.old self.new result }
+    // Makes it a pool that serves so many markers, and in which nothing waits.
+    pub fn set_up(&mut self, markers: usize) -> Result<(), Refusal>
+        ensures answer { result ≡ pool_answer markers (length self.old.words.now) }
+        ensures made { PoolMade markers self.old self.new result }
     {
-        if !(1..=MARKERS).contains(&m) {
+        if !(1..=MARKERS).contains(&markers) {
             return Err(Refusal::Range);
         }
         if self.words.len() < Self::MOST {
             return Err(Refusal::Memory);
         }
         self.held = 0;
-        self.served = m;
+        self.served = markers;
         Ok(())
     }
 

@@ -40,20 +40,20 @@ impl<'a> Ring<'a> {
         }
     }
 
-    // Makes it a ring that serves `m` markers with `length` entries a pair, and in which nothing waits.
-    pub fn set_up(&mut self, m: usize, length: usize) -> Result<(), Refusal>
-        ensures answer { result ≡ ring_answer m length (count self.old.words.now) }
-        ensures made { RingMade m length self.old self.new result }
+    // Makes it a ring that serves so many markers with `length` entries a pair, and in which nothing waits.
+    pub fn set_up(&mut self, markers: usize, length: usize) -> Result<(), Refusal>
+        ensures answer { result ≡ ring_answer markers length (count self.old.words.now) }
+        ensures made { RingMade markers length self.old self.new result }
     {
-        if !(1..=MARKERS).contains(&m) || !(1..=Self::MOST).contains(&length) {
+        if !(1..=MARKERS).contains(&markers) || !(1..=Self::MOST).contains(&length) {
             return Err(Refusal::Range);
         }
-        let n = m * (m - 1) * length;
+        let n = markers * (markers - 1) * length;
         if n > self.words.len() {
             return Err(Refusal::Memory);
         }
         self.words[..n].fill(0);
-        self.served = m;
+        self.served = markers;
         self.length = length;
         self.cursors = [Cursors::START; PAIRS];
         Ok(())

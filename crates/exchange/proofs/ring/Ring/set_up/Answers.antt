@@ -8,7 +8,7 @@ use Rattle.exchange.proofs.ring.Ring.set_up.Goals as goal
 
 pub invariant_of-self : goal.invariant_of-self
 invariant_of-self c =
-    let m = c.args.m in
+    let m = c.args.markers in
     let zeros : c.fill.new.self ≡ replicate (m * (m - 1) * c.args.length) 0 = search rules in
     let some : 1 ≤ c.args.length = search rules in
     let short : c.args.length ≤ 64 = search rules in
@@ -27,7 +27,7 @@ invariant_of-self c =
 
 pub returns-clause-made : goal.returns-clause-made
 returns-clause-made c =
-    let m = c.args.m in
+    let m = c.args.markers in
     let words = c.args.self.now.words in
     let some : 1 ≤ c.args.length = search rules in
     let few : m ≤ 16 = search rules in
