@@ -14,6 +14,10 @@ row_le p q len l = omega (arith, mul-le (p + 1) len q len (omega arith) (omega a
 pub row_within : (q n len : ℕ) (words : List ℕ) → q < n → n * len ≤ length words → q * len + len ≤ length words
 row_within q n len words l room = omega (arith, row_le q n len l)
 
+-- the words, where es stands in place of the len words from word a on
+abbrev pub with_part : ℕ → ℕ → List ℕ → List ℕ → List ℕ
+with_part len a words es = put_mid a (a + len - a) words es
+
 -- len words from word a on
 module _ (words es : List ℕ) (len a : ℕ) (within : a + len ≤ length words) where
   pub part_length : length (take len (drop a words)) ≡ len
@@ -23,30 +27,30 @@ module _ (words es : List ℕ) (len a : ℕ) (within : a + len ≤ length words)
   part_at p l = grind (arith, places)
 
   -- they are written as they were
-  pub part_same : put_mid a (a + len - a) words (take len (drop a words)) ≡ words
+  pub part_same : with_part len a words (take len (drop a words)) ≡ words
   part_same = same_lists _ _ (grind (arith, places)) (λ k d h. grind (arith, places))
 
   -- one of them is written
-  pub part_set : (p v : ℕ) → p < len → put_mid a (a + len - a) words (set (take len (drop a words)) p v) ≡ set words (a + p) v
+  pub part_set : (p v : ℕ) → p < len → with_part len a words (set (take len (drop a words)) p v) ≡ set words (a + p) v
   part_set p v l = same_lists _ _ (grind (arith, places, length-set)) (λ k d h. grind (arith, places, length-set, get_or-set_same, cases_eq k (a + p)))
 
   -- all of them are written
   module _ (long : length es ≡ len) where
-    pub words_length : length (put_mid a (a + len - a) words es) ≡ length words
+    pub words_length : length (with_part len a words es) ≡ length words
     words_length = grind (arith, places)
 
-    pub part_here : take len (drop a (put_mid a (a + len - a) words es)) ≡ es
+    pub part_here : take len (drop a (with_part len a words es)) ≡ es
     part_here = same_lists _ _ (grind (arith, places)) (λ k d h. grind (arith, places))
 
-    pub part_before : (b : ℕ) → b + len ≤ a → take len (drop b (put_mid a (a + len - a) words es)) ≡ take len (drop b words)
+    pub part_before : (b : ℕ) → b + len ≤ a → take len (drop b (with_part len a words es)) ≡ take len (drop b words)
     part_before b l = same_lists _ _ (grind (arith, places)) (λ k d h. grind (arith, places))
 
-    pub part_behind : (b : ℕ) → a + len ≤ b → take len (drop b (put_mid a (a + len - a) words es)) ≡ take len (drop b words)
+    pub part_behind : (b : ℕ) → a + len ≤ b → take len (drop b (with_part len a words es)) ≡ take len (drop b words)
     part_behind b l = same_lists _ _ (grind (arith, places)) (λ k d h. grind (arith, places))
 
 -- the entries of another pair stay
 pub entries_other : (words es : List ℕ) (len q o : ℕ) → q * len + len ≤ length words → length es ≡ len → (o ≡ q → ⊥)
-    → entries_of len o (put_mid (q * len) (q * len + len - q * len) words es) ≡ entries_of len o words
+    → entries_of len o (with_part len (q * len) words es) ≡ entries_of len o words
 entries_other words es len q o within long ne =
     ⊎_elim
     (λ (low : o < q). part_before words es len (q * len) within long (o * len) (row_le o q len low))

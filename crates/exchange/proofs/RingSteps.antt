@@ -3,7 +3,6 @@ use Rattle.std.proofs.Common.{◌≡◌, ℕ, ◌+◌, ◌-◌, ◌*◌, ◌<◌
 use Rattle.std.proofs.Props.{props}
 use mathlib.Core.HLevel.{is_prop→PathP}
 use borrow.Rule.Slice.Mut.{set_vals}
-use borrow.Rule.Slice.PartMut.{put_mid}
 use Rattle.std.proofs.lemmas.List.{get_or-set_same, get_or-set_other, set-get_or}
 use Rattle.std.proofs.lemmas.Bool.{cases_eq}
 use Rattle.exchange.specs.declared.answer.Put.{Put}
@@ -15,7 +14,7 @@ use Rattle.exchange.specs.Calls.{Queues, Joins, Leaves, PutSays, TakeSays}
 use Rattle.exchange.specs.Entries.{entries_of, tasks, start, cursors_of, IsRing, FillsTail, VacatesHead, Unchanged, PairPut, PairTake}
 use Rattle.exchange.specs.RingMeaning.{RingState, ring_of, pair_cursors, ring_tasks, head_entry, tail_entry, filled_at_tail, vacated_at_head, RingPut, RingTake, ring_serves, ring_waiting, ring_vacant}
 use Rattle.exchange.proofs.Pairings.{number_same}
-use Rattle.exchange.proofs.EntryParts.{row_within, part_length, part_at, part_same, part_set, words_length, part_here, entries_other}
+use Rattle.exchange.proofs.EntryParts.{row_within, with_part, part_length, part_at, part_same, part_set, words_length, part_here, entries_other}
 
 -- every pair has its ring
 pub record Rings (s : RingState) : Type 0 where
@@ -42,7 +41,7 @@ module _ (s : RingState) (keeps : Rings s) (q : ℕ) (ql : q < pairs_of s.served
   -- the pair with number q has another ring
   module _ (c : Cursors) (es : List ℕ) (same : length es ≡ length entries) (few : q < length s.cursors) where
     abbrev pub with_ring : RingState
-    with_ring = record s { words = put_mid (q * s.length) (q * s.length + s.length - q * s.length) s.words es; cursors = set s.cursors q c }
+    with_ring = record s { words = with_part s.length (q * s.length) s.words es; cursors = set s.cursors q c }
 
     cursors_here : pair_cursors with_ring q ≡ c
     cursors_here = get_or-set_same s.cursors q c start few
@@ -92,14 +91,14 @@ module _ (s : RingState) (keeps : Rings s) (q : ℕ) (ql : q < pairs_of s.served
 
     pub is_filled : (t : ℕ) → (pair_cursors s q).tail < length entries → FillsTail (pair_cursors s q) c entries es t → with_ring ≡ filled_at_tail q t s
     is_filled t l f =
-        let w : put_mid (q * s.length) (q * s.length + s.length - q * s.length) s.words es ≡ set s.words (tail_entry s q) t =
-        ap (put_mid (q * s.length) (q * s.length + s.length - q * s.length) s.words) f.entries ∙ part_set s.words [] s.length (q * s.length) within (pair_cursors s q).tail t (rw long at l) in
+        let w : with_part s.length (q * s.length) s.words es ≡ set s.words (tail_entry s q) t =
+        ap (with_part s.length (q * s.length) s.words) f.entries ∙ part_set s.words [] s.length (q * s.length) within (pair_cursors s q).tail t (rw long at l) in
         cc (w, f.cursors, long)
 
     pub is_vacated : (t : ℕ) → (pair_cursors s q).head < length entries → VacatesHead (pair_cursors s q) c entries es t → with_ring ≡ vacated_at_head q s
     is_vacated t l v =
-        let w : put_mid (q * s.length) (q * s.length + s.length - q * s.length) s.words es ≡ set s.words (head_entry s q) 0 =
-        ap (put_mid (q * s.length) (q * s.length + s.length - q * s.length) s.words) v.entries ∙ part_set s.words [] s.length (q * s.length) within (pair_cursors s q).head 0 (rw long at l) in
+        let w : with_part s.length (q * s.length) s.words es ≡ set s.words (head_entry s q) 0 =
+        ap (with_part s.length (q * s.length) s.words) v.entries ∙ part_set s.words [] s.length (q * s.length) within (pair_cursors s q).head 0 (rw long at l) in
         cc (w, v.cursors, long)
 
 -- rings with the same words, numbers and cursors are the same
@@ -119,7 +118,7 @@ same_ring r r' w m n c = λ i. record {
 
 -- in place of r stands r', where the pair with number q has the cursors c and the entries es
 pub record Renews (q : ℕ) (c : Cursors) (es : List ℕ) (r r' : Ring) : Type 0 where
-  pub words : r'.words ≡ set_vals (put_mid (q * r.length) (q * r.length + r.length - q * r.length) r.words.now es) r.words
+  pub words : r'.words ≡ set_vals (with_part r.length (q * r.length) r.words.now es) r.words
   pub served : r'.served ≡ r.served
   pub length : r'.length ≡ r.length
   pub cursors : r'.cursors ≡ set r.cursors q c
@@ -142,7 +141,7 @@ module _ (c c' : Cursors) (es es' : List ℕ) where
 
 module _ (r : Ring) (q : ℕ) (l : q < pairs_of r.served) (few : q < length r.cursors) (c : Cursors) (es : List ℕ) where
   abbrev pub renewed : RingState
-  renewed = record (ring_of r) { words = put_mid (q * r.length) (q * r.length + r.length - q * r.length) r.words.now es; cursors = set r.cursors q c }
+  renewed = record (ring_of r) { words = with_part r.length (q * r.length) r.words.now es; cursors = set r.cursors q c }
 
   -- the part that is lent ends within the words
   pub lent_within : q * r.length + r.length ≤ length r.words.now
@@ -184,7 +183,7 @@ module _ (r : Ring) (i j q : ℕ) (n : Numbered r.served i j (Ok q)) (few : q < 
 
   -- a ring whose pair is as it was is as it was
   words_stay : es ≡ held → after.words ≡ r.words.now
-  words_stay u = ap (put_mid (q * r.length) (q * r.length + r.length - q * r.length) r.words.now) u ∙ part_same r.words.now [] r.length (q * r.length) room
+  words_stay u = ap (with_part r.length (q * r.length) r.words.now) u ∙ part_same r.words.now [] r.length (q * r.length) room
 
   cursors_stay : c ≡ own → after.cursors ≡ r.cursors
   cursors_stay u = ap (set r.cursors q) u ∙ set-get_or r.cursors q start
