@@ -1,11 +1,12 @@
 -- A deque is a double-ended queue. Assumes nothing.
 use Rattle.std.proofs.Common.{◌≡◌, List, [], ◌∷◌, ◌++◌, length, Some, None, Ok, Option, sym, ap, ◌∙◌, append_assoc, arith}
+use Rattle.std.specs.Prelude.{drop, slice_get}
 use Rattle.deque.specs.declared.Ends.{Ends}
 use Rattle.deque.specs.declared.Deque.{Deque}
 use Rattle.deque.specs.Ends.{held_in}
 use Rattle.deque.specs.Promises.{Pushes, PopsBottom}
 use Rattle.deque.specs.Calls.{SameLender, DequePushes, DequePopsBottom}
-use Rattle.deque.specs.Laws.{ComesBack, PushedAll, none, more, oldest_of, behind_oldest, GivesOldest}
+use Rattle.deque.specs.Laws.{ComesBack, PushedAll, none, more, GivesOldest}
 use Rattle.std.proofs.lemmas.List.{append-nil, same_from_push}
 
 comes_back : {X : Type 0} (e e' : Ends) (m m' : List X) (x : X) → Pushes e e' m m' x (Ok tt) → ComesBack e e' m m' x (Ok tt)
@@ -26,10 +27,10 @@ pushed_list (x ∷ xs) b e n m (more {e' = e'} {m' = m'} p rest) =
 gives_oldest : {X : Type 0} (e e' : Ends) (m m' : List X) (r : Option X) → PopsBottom e e' m m' r → GivesOldest e e' m m' r
 gives_oldest e e' m m' (Some x) p xs b n h =
     let l = sym (pushed_list xs b e n m h) ∙ p.2 in
-    (ap oldest_of (sym l), ap behind_oldest (sym l))
+    (ap (λ ys. slice_get ys 0) (sym l), ap (drop 1) (sym l))
 gives_oldest e e' m m' None p xs b n h =
     let l = sym (pushed_list xs b e n m h) ∙ p.0 in
-    (ap oldest_of (sym l), rw (p.2.0, p.2.1) p.0 ∙ ap behind_oldest (sym l))
+    (ap (λ ys. slice_get ys 0) (sym l), rw (p.2.0, p.2.1) p.0 ∙ ap (drop 1) (sym l))
 
 -- the law of a call follows from its promise
 module _ {X : Type 0} (d d' : Deque X) (same : SameLender d d') where

@@ -1,5 +1,5 @@
 -- It is a double-ended queue. Assumes nothing.
-use Rattle.std.specs.Prelude.{◌≡◌, List, [], ◌∷◌, ◌++◌, Some, None, Ok, Err, Option, Result}
+use Rattle.std.specs.Prelude.{◌≡◌, List, [], ◌∷◌, ◌++◌, drop, Some, Ok, Err, Option, Result, slice_get}
 use Rattle.refusal.specs.declared.Refusal.{Refusal}
 use Rattle.deque.specs.declared.Ends.{Ends}
 use Rattle.deque.specs.Ends.{held_in}
@@ -15,16 +15,7 @@ pub data PushedAll {X : Type 0} : List X → Ends → Ends → List X → List X
   none : {e : Ends} {m : List X} → PushedAll [] e e m m
   more : {x : X} {xs : List X} {e e' e'' : Ends} {m m' m'' : List X} → Pushes e e' m m' x (Ok tt) → PushedAll xs e' e'' m' m'' → PushedAll (x ∷ xs) e e'' m m''
 
--- the oldest of a list, and those behind it
-abbrev pub oldest_of : {X : Type 0} → List X → Option X
-oldest_of [] = None
-oldest_of (x ∷ xs) = Some x
-
-abbrev pub behind_oldest : {X : Type 0} → List X → List X
-behind_oldest [] = []
-behind_oldest (x ∷ xs) = xs
-
 -- after any pushes a pop at the bottom gives the oldest of what was held before them, or of what they brought, and leaves the rest
 abbrev pub GivesOldest : {X : Type 0} → Ends → Ends → List X → List X → Option X → Type 0
 GivesOldest {X} e e' m m' r =
-    (xs : List X) (b : Ends) (n : List X) → PushedAll xs b e n m → (r ≡ oldest_of (held_in b n ++ xs)) × (held_in e' m' ≡ behind_oldest (held_in b n ++ xs))
+    (xs : List X) (b : Ends) (n : List X) → PushedAll xs b e n m → (r ≡ slice_get (held_in b n ++ xs) 0) × (held_in e' m' ≡ drop 1 (held_in b n ++ xs))
