@@ -1,5 +1,6 @@
 -- The entries of one pair among the words, and what a write to one pair leaves of them. Assumes nothing.
-use Rattle.std.proofs.Common.{◌≡◌, ℕ, ◌+◌, ◌-◌, ◌*◌, ◌<◌, ◌≤◌, List, length, get_or, take, drop, set, ⊎_elim, add-mul, arith, length-drop, length-take, length-set}
+use Rattle.std.proofs.Common.{◌≡◌, ℕ, ◌+◌, ◌-◌, ◌*◌, ◌<◌, ◌≤◌, List, length, get_or, set, ⊎_elim, add-mul, arith, length-set}
+use Rattle.std.specs.Prelude.{slice_range}
 use borrow.Rule.Slice.PartMut.{put_mid}
 use Rattle.std.proofs.lemmas.List.{places, same_lists, get_or-set_same}
 use Rattle.std.proofs.lemmas.Bool.{cases_eq, cases_lt}
@@ -20,18 +21,18 @@ with_part len a words es = put_mid a (a + len - a) words es
 
 -- len words from word a on
 module _ (words es : List ℕ) (len a : ℕ) (within : a + len ≤ length words) where
-  pub part_length : length (take len (drop a words)) ≡ len
-  part_length = simp (length-take, length-drop) (omega arith)
+  pub part_length : length (slice_range words a (a + len)) ≡ len
+  part_length = grind (arith, places)
 
-  pub part_at : (p : ℕ) → p < len → get_or (take len (drop a words)) p 0 ≡ get_or words (a + p) 0
+  pub part_at : (p : ℕ) → p < len → get_or (slice_range words a (a + len)) p 0 ≡ get_or words (a + p) 0
   part_at p l = grind (arith, places)
 
   -- they are written as they were
-  pub part_same : with_part len a words (take len (drop a words)) ≡ words
+  pub part_same : with_part len a words (slice_range words a (a + len)) ≡ words
   part_same = same_lists _ _ (grind (arith, places)) (λ k d h. grind (arith, places))
 
   -- one of them is written
-  pub part_set : (p v : ℕ) → p < len → with_part len a words (set (take len (drop a words)) p v) ≡ set words (a + p) v
+  pub part_set : (p v : ℕ) → p < len → with_part len a words (set (slice_range words a (a + len)) p v) ≡ set words (a + p) v
   part_set p v l = same_lists _ _ (grind (arith, places, length-set)) (λ k d h. grind (arith, places, length-set, get_or-set_same, cases_eq k (a + p)))
 
   -- all of them are written
@@ -39,13 +40,13 @@ module _ (words es : List ℕ) (len a : ℕ) (within : a + len ≤ length words)
     pub words_length : length (with_part len a words es) ≡ length words
     words_length = grind (arith, places)
 
-    pub part_here : take len (drop a (with_part len a words es)) ≡ es
+    pub part_here : slice_range (with_part len a words es) a (a + len) ≡ es
     part_here = same_lists _ _ (grind (arith, places)) (λ k d h. grind (arith, places))
 
-    pub part_before : (b : ℕ) → b + len ≤ a → take len (drop b (with_part len a words es)) ≡ take len (drop b words)
+    pub part_before : (b : ℕ) → b + len ≤ a → slice_range (with_part len a words es) b (b + len) ≡ slice_range words b (b + len)
     part_before b l = same_lists _ _ (grind (arith, places)) (λ k d h. grind (arith, places))
 
-    pub part_behind : (b : ℕ) → a + len ≤ b → take len (drop b (with_part len a words es)) ≡ take len (drop b words)
+    pub part_behind : (b : ℕ) → a + len ≤ b → slice_range (with_part len a words es) b (b + len) ≡ slice_range words b (b + len)
     part_behind b l = same_lists _ _ (grind (arith, places)) (λ k d h. grind (arith, places))
 
 -- the entries of another pair stay

@@ -1,8 +1,8 @@
 -- A ring whose entries are all vacant: nothing waits, and it keeps what a ring keeps. Assumes nothing.
-use Rattle.std.proofs.Common.{◌≡◌, ℕ, ◌+◌, ◌-◌, ◌*◌, ◌<◌, ◌≤◌, List, [], ◌++◌, length, take, drop, replicate, sym, ap, ◌∙◌, mod-eq_of_lt, arith, length-append}
+use Rattle.std.proofs.Common.{◌≡◌, ℕ, ◌+◌, ◌-◌, ◌*◌, ◌<◌, ◌≤◌, List, [], ◌++◌, length, drop, replicate, sym, ap, ◌∙◌, mod-eq_of_lt, arith, length-append}
 use Rattle.std.specs.Borrow.{MutBor}
 use lib.ListN.{length-replicate}
-use Rattle.std.proofs.lemmas.List.{drop-append-le, drop-replicate, take-append-le, take-replicate, get_or-replicate, append-nil}
+use Rattle.std.proofs.lemmas.List.{get_or-replicate, append-nil, places, same_lists}
 use Rattle.exchange.specs.Pairs.{pairs_of}
 use Rattle.exchange.specs.Entries.{entries_of, filled, tasks, start, IsRing}
 use Rattle.exchange.specs.RingMeaning.{new_ring, pair_cursors, ring_tasks}
@@ -22,12 +22,7 @@ vacant_ring n some = let whole : n ≡ n - 0 = omega arith in record {
 }
 
 vacant_entries : (n q len : ℕ) (rest : List ℕ) → q * len + len ≤ n → entries_of len q (replicate n 0 ++ rest) ≡ replicate len 0
-vacant_entries n q len rest le =
-    let before : q * len ≤ length (replicate {A = ℕ} n 0) = rw length-replicate (omega arith) in
-    let enough : len ≤ n - q * len = omega arith in
-    let within : len ≤ length (replicate {A = ℕ} (n - q * len) 0) = rw length-replicate enough in
-    ap (take len) (drop-append-le (q * len) (replicate n 0) rest before ∙ ap (λ xs. xs ++ rest) (drop-replicate (q * len) n 0))
-    ∙ take-append-le len (replicate (n - q * len) 0) rest within ∙ take-replicate len (n - q * len) 0 enough
+vacant_entries n q len rest le = same_lists _ _ (grind (arith, places)) (λ k d h. grind (arith, places, get_or-replicate))
 
 module _ (m len : ℕ) (words : MutBor (List ℕ)) (holds : 1 ≤ len) (few : pairs_of m ≤ 240) where
   vacant : (q : ℕ) → q < pairs_of m → entries_of len q (new_ring m len words).words ≡ replicate len 0

@@ -1,5 +1,5 @@
 -- A put and a take of a ring, over all pairs: the ring of one pair is another, those of the others stay. Assumes nothing.
-use Rattle.std.proofs.Common.{◌≡◌, ℕ, ◌+◌, ◌-◌, ◌*◌, ◌<◌, ◌≤◌, List, [], ◌∷◌, ◌++◌, length, get_or, take, drop, set, Some, None, Ok, Option, sym, refl, ap, ◌∙◌, subst, ⊎_elim, arith, mod-lt, length-set}
+use Rattle.std.proofs.Common.{◌≡◌, ℕ, ◌+◌, ◌*◌, ◌<◌, ◌≤◌, List, [], ◌∷◌, ◌++◌, length, get_or, set, Some, None, Ok, Option, sym, refl, ap, ◌∙◌, subst, ⊎_elim, arith, mod-lt, length-set}
 use Rattle.std.proofs.Props.{props}
 use mathlib.Core.HLevel.{is_prop→PathP}
 use borrow.Rule.Slice.Mut.{set_vals}
@@ -123,13 +123,6 @@ pub record Renews (q : ℕ) (c : Cursors) (es : List ℕ) (r r' : Ring) : Type 0
   pub length : r'.length ≡ r.length
   pub cursors : r'.cursors ≡ set r.cursors q c
 
--- the words that are lent for the pair with number q are its entries
-abbrev pub lent : ℕ → Ring → List ℕ
-lent q r = take (q * r.length + r.length - q * r.length) (drop (q * r.length) r.words.now)
-
-lent_is : (q : ℕ) (r : Ring) → lent q r ≡ entries_of r.length q r.words.now
-lent_is q r = let e : q * r.length + r.length - q * r.length ≡ r.length = omega arith in ap (λ k. take k (drop (q * r.length) r.words.now)) e
-
 module _ (c c' : Cursors) (es es' : List ℕ) where
   pub put_length : (t : ℕ) (a : Put) → PairPut c c' es es' t a → length es' ≡ length es
   put_length t Joined f = rw (f.entries, length-set) refl
@@ -147,11 +140,11 @@ module _ (r : Ring) (q : ℕ) (l : q < pairs_of r.served) (few : q < length r.cu
   pub lent_within : q * r.length + r.length ≤ length r.words.now
   lent_within = row_within q (pairs_of r.served) r.length r.words.now l r.room
 
-  pub put_rings : (t : ℕ) (a : Put) → PairPut (pair_cursors (ring_of r) q) c (lent q r) es t a → IsRing c es → Rings renewed
-  put_rings t a f ring = rings_with (ring_of r) (rings r) q l c es (put_length _ c _ es t a f ∙ ap length (lent_is q r)) few ring
+  pub put_rings : (t : ℕ) (a : Put) → PairPut (pair_cursors (ring_of r) q) c (entries_of r.length q r.words.now) es t a → IsRing c es → Rings renewed
+  put_rings t a f ring = rings_with (ring_of r) (rings r) q l c es (put_length _ c _ es t a f) few ring
 
-  pub take_rings : (a : Option ℕ) → PairTake (pair_cursors (ring_of r) q) c (lent q r) es a → IsRing c es → Rings renewed
-  take_rings a v ring = rings_with (ring_of r) (rings r) q l c es (take_length _ c _ es a v ∙ ap length (lent_is q r)) few ring
+  pub take_rings : (a : Option ℕ) → PairTake (pair_cursors (ring_of r) q) c (entries_of r.length q r.words.now) es a → IsRing c es → Rings renewed
+  take_rings a v ring = rings_with (ring_of r) (rings r) q l c es (take_length _ c _ es a v) few ring
 
 module _ (r : Ring) (i j q : ℕ) (n : Numbered r.served i j (Ok q)) (few : q < length r.cursors) (c : Cursors) (es : List ℕ) where
   abbrev own : Cursors
@@ -191,19 +184,19 @@ module _ (r : Ring) (i j q : ℕ) (n : Numbered r.served i j (Ok q)) (few : q < 
   stays : Unchanged own c held es → after ≡ ring_of r
   stays u = λ k. record { served = r.served; length = r.length; words = words_stay u.1 k; cursors = cursors_stay u.0 k; lender = r.words.ghost_name }
 
-  put_state : (t : ℕ) (a : Put) → PairPut own c held es t a → RingPut (pair_at r.served i j) t (ring_of r) after (Ok a)
-  put_state t Joined f = rw (← n.1) (sym at_tail ∙ f.vacant, is_filled (ring_of r) (rings r) q n.2 c es (put_length _ c _ es t Joined f) few t (rw whole tail_within) f)
-  put_state t NoVacancy f = rw (← n.1) (λ z. f.0 (at_tail ∙ z), stays f.2)
+  pub put_memory : (t : ℕ) (a : Put) → PairPut own c held es t a → RingPut (pair_at r.served i j) t (ring_of r) after (Ok a)
+  put_memory t Joined f = rw (← n.1) (sym at_tail ∙ f.vacant, is_filled (ring_of r) (rings r) q n.2 c es (put_length _ c _ es t Joined f) few t (rw whole tail_within) f)
+  put_memory t NoVacancy f = rw (← n.1) (λ z. f.0 (at_tail ∙ z), stays f.2)
 
-  take_state : (a : Option ℕ) → PairTake own c held es a → RingTake (pair_at r.served i j) (ring_of r) after (Ok a)
-  take_state (Some t) v =
+  pub take_memory : (a : Option ℕ) → PairTake own c held es a → RingTake (pair_at r.served i j) (ring_of r) after (Ok a)
+  take_memory (Some t) v =
       let same = take_length _ c _ es (Some t) v in
       rw (← n.1) (
         v.task ∙ at_head,
         is_vacated (ring_of r) (rings r) q n.2 c es same few t (rw whole head_within) v,
         v.leaves ∙ ap (λ ts. t ∷ ts) (sym (tasks_here (ring_of r) (rings r) q n.2 c es same few)),
       )
-  take_state None v = rw (← n.1) (sym at_head ∙ v.0, stays v.2)
+  take_memory None v = rw (← n.1) (sym at_head ∙ v.0, stays v.2)
 
   module _ (r' : Ring) (new : Renews q c es r r') where
     unchanged : Unchanged own c held es → r' ≡ r
@@ -214,35 +207,20 @@ module _ (r : Ring) (i j q : ℕ) (n : Numbered r.served i j (Ok q)) (few : q < 
     state : ring_of r' ≡ after
     state = λ k. record { served = new.served k; length = new.length k; words = (new.words k).now; cursors = new.cursors k; lender = (new.words k).ghost_name }
 
-    put_says : (t : ℕ) (a : Put) → 0 < t → PairPut own c held es t a → PutSays ring_serves ring_waiting ring_vacant i j t r r' (Ok a)
-    put_says t Joined some f = (
+    pub put_meaning : (t : ℕ) (a : Put) → 0 < t → PairPut own c held es t a → PutSays ring_serves ring_waiting ring_vacant i j t r r' (Ok a)
+    put_meaning t Joined some f = (
       n.0,
       some,
       rw (← n.1) (omega (arith, f.room, whole)),
       new.served,
       subst (λ z. Joins r.served i j t (queues (ring_of r)) (queues z)) (sym state) (joins (ring_of r) (rings r) q n.2 c es (put_length _ c _ es t Joined f) few i j n.0 n.1 t f),
     )
-    put_says t NoVacancy some f = (n.0, some, rw (← n.1) (omega (arith, f.1, whole)), unchanged f.2)
+    put_meaning t NoVacancy some f = (n.0, some, rw (← n.1) (omega (arith, f.1, whole)), unchanged f.2)
 
-    take_says : (a : Option ℕ) → PairTake own c held es a → TakeSays ring_serves ring_waiting ring_vacant i j r r' (Ok a)
-    take_says (Some t) v = (
+    pub take_meaning : (a : Option ℕ) → PairTake own c held es a → TakeSays ring_serves ring_waiting ring_vacant i j r r' (Ok a)
+    take_meaning (Some t) v = (
       n.0,
       new.served,
       subst (λ z. Leaves r.served i j t (queues (ring_of r)) (queues z)) (sym state) (leaves (ring_of r) (rings r) q n.2 c es (take_length _ c _ es (Some t) v) few i j n.0 n.1 t v),
     )
-    take_says None v = (n.0, rw (← n.1) v.1, unchanged v.2)
-
-  -- the same of the part that is lent
-  module _ (t : ℕ) (a : Put) (f : PairPut own c (lent q r) es t a) where
-    pub put_memory : RingPut (pair_at r.served i j) t (ring_of r) after (Ok a)
-    put_memory = put_state t a (rw lent_is at f)
-
-    pub put_meaning : (r' : Ring) → Renews q c es r r' → 0 < t → PutSays ring_serves ring_waiting ring_vacant i j t r r' (Ok a)
-    put_meaning r' new some = put_says r' new t a some (rw lent_is at f)
-
-  module _ (a : Option ℕ) (v : PairTake own c (lent q r) es a) where
-    pub take_memory : RingTake (pair_at r.served i j) (ring_of r) after (Ok a)
-    take_memory = take_state a (rw lent_is at v)
-
-    pub take_meaning : (r' : Ring) → Renews q c es r r' → TakeSays ring_serves ring_waiting ring_vacant i j r r' (Ok a)
-    take_meaning r' new = take_says r' new a (rw lent_is at v)
+    take_meaning None v = (n.0, rw (← n.1) v.1, unchanged v.2)

@@ -1,12 +1,12 @@
 -- How the entries of a ring stand for the waiting tasks of a pair, and what a put and a take do to them. Assumes nothing.
-use Rattle.std.specs.Prelude.{◌≡◌, ℕ, zero, suc, ◌+◌, ◌-◌, ◌*◌, ◌%◌, ◌<◌, ◌≤◌, List, [], ◌∷◌, ◌++◌, length, take, drop, replicate, Some, None, Option, ◌≢◌, slice_index, slice_index_or, slice_set}
+use Rattle.std.specs.Prelude.{◌≡◌, ℕ, zero, suc, ◌+◌, ◌-◌, ◌*◌, ◌%◌, ◌<◌, ◌≤◌, List, [], ◌∷◌, ◌++◌, length, take, drop, replicate, Some, None, Option, ◌≢◌, slice_index, slice_index_or, slice_range, slice_set}
 use Rattle.exchange.specs.declared.answer.Put.{Put}
 use Rattle.exchange.specs.declared.answer.Put.TheVariants.{Joined, NoVacancy}
 use Rattle.exchange.specs.declared.cursors.Cursors.{Cursors}
 
 -- the entries of the pair with number q, where each pair has len entries
 abbrev pub entries_of : ℕ → ℕ → List ℕ → List ℕ
-entries_of len q words = take len (drop (q * len) words)
+entries_of len q words = slice_range words (q * len) (q * len + len)
 
 -- the entries from the head on, the first coming after the last
 abbrev pub turned : List ℕ → ℕ → List ℕ

@@ -19,6 +19,6 @@ returns c =
     let n = c.in_ok-q.ensures in
     let p = c.args.pair in
     record {
-      meaning = put_meaning r p.sender p.receiver c.in_ok-q.q n (omega (arith, n.3)) c.put.new.self c.put.new.entries c.args.task c.put.result c.put.ensures.put _ (record { words = refl; served = refl; length = refl; cursors = refl }) (omega arith);
+      meaning = put_meaning r p.sender p.receiver c.in_ok-q.q n (omega (arith, n.3)) c.put.new.self c.put.new.entries _ (record { words = refl; served = refl; length = refl; cursors = refl }) c.args.task c.put.result (omega arith) c.put.ensures.put;
       memory = put_memory r p.sender p.receiver c.in_ok-q.q n (omega (arith, n.3)) c.put.new.self c.put.new.entries c.args.task c.put.result c.put.ensures.put;
     }

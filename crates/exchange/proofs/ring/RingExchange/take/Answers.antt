@@ -16,6 +16,6 @@ returns c =
     let n = c.in_ok-q.ensures in
     let p = c.args.pair in
     record {
-      meaning = take_meaning r p.sender p.receiver c.in_ok-q.q n (omega (arith, n.3)) c.take.new.self c.take.new.entries c.take.result c.take.ensures.taken _ (record { words = refl; served = refl; length = refl; cursors = refl });
+      meaning = take_meaning r p.sender p.receiver c.in_ok-q.q n (omega (arith, n.3)) c.take.new.self c.take.new.entries _ (record { words = refl; served = refl; length = refl; cursors = refl }) c.take.result c.take.ensures.taken;
       memory = take_memory r p.sender p.receiver c.in_ok-q.q n (omega (arith, n.3)) c.take.new.self c.take.new.entries c.take.result c.take.ensures.taken;
     }
