@@ -24,7 +24,7 @@ impl Ends {
     }
 }
 
-// The place that comes `by` places after `first`.
+// The place that comes `by` places after `first`. No `%`, since `first + by` may pass the largest number.
 fn place_after(n: usize, first: usize, by: usize) -> usize
     requires { (first < n) × (by ≤ n) }
     ensures value { result ≡ wrapped n (first + by) }
