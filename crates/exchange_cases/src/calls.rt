@@ -5,7 +5,7 @@ use std::alloc::{AllocError, Global};
 
 // The line of a refusal.
 fn refused(memory: Global, refusal: Refusal) -> Result<String, AllocError> {
-    format!(in memory; "refused={}", refusal.number())
+    format!(in memory; "refused={}", u8::from(refusal))
 }
 
 // The line of an exchange that is made.
