@@ -25,8 +25,8 @@ fn judge(rt: &HostRuntime, text: &[u8]) -> anyhow::Result<ExitCode> {
             rt.print(sheet)?;
             Ok(ExitCode::SUCCESS)
         }
-        Err(refusal @ JudgeError::Refused(_)) => {
-            rt.print(refusal)?;
+        Err(error @ JudgeError::Refused(_)) => {
+            rt.print(error)?;
             Ok(ExitCode::FAILURE)
         }
         Err(error) => Err(error.into()),

@@ -3,6 +3,7 @@ use Rattle.heap.specs.declared.checked.CheckedHeap.{CheckedHeap}
 use Rattle.heap.specs.Heap.{Heap}
 use Rattle.heap.specs.Tables.{Lenders, Tables, heap_in}
 
+-- whose its tables are
 abbrev pub lenders_of : CheckedHeap → Lenders
 lenders_of h =
     record {
@@ -11,6 +12,7 @@ lenders_of h =
       root_table = h.root_table.ghost_name;
     }
 
+-- its numbers, and what its tables hold
 abbrev pub tables_of : CheckedHeap → Tables
 tables_of h =
     record {
@@ -25,5 +27,6 @@ tables_of h =
       lenders = lenders_of h;
     }
 
+-- the heap itself
 abbrev pub heap_of : CheckedHeap → Heap
 heap_of h = heap_in (tables_of h)

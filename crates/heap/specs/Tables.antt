@@ -1,5 +1,6 @@
 -- The heap that tables hold, and the tables that hold a heap. Assumes nothing.
 use Rattle.std.specs.Prelude.{ℕ, ◌+◌, List, [], ◌∷◌, ◌++◌, map, length, take, drop, sum_by, slice_index_or}
+use Rattle.std.specs.Borrow.{GName, MutBor}
 use Rattle.std.specs.List.{flat_map}
 use Rattle.heap.specs.declared.entry.ObjectEntry.{ObjectEntry}
 use Rattle.heap.specs.Heap.{Object, Heap, references_in}
@@ -24,9 +25,9 @@ objects_in references es = map (object_in references) es
 
 -- Which stretches a heap's tables are lent from: the name of each loan.
 pub record Lenders : Type 0 where
-  pub object_table : ℕ
-  pub reference_table : ℕ
-  pub root_table : ℕ
+  pub object_table : GName
+  pub reference_table : GName
+  pub root_table : GName
 
 -- The numbers of a checked heap and what its tables hold, those places too that it does not use, and whose they are.
 pub record Tables : Type 0 where
@@ -75,17 +76,17 @@ filled h t =
       lenders = t.lenders;
     }
 
--- the empty heap: one cell, width 1, nothing in it
-abbrev pub empty_over : List ObjectEntry → List ℕ → List ℕ → Lenders → Tables
-empty_over entries references roots lenders =
+-- the empty heap over tables that are lent: one cell, width 1, nothing in it
+abbrev pub empty_over : MutBor (List ObjectEntry) → MutBor (List ℕ) → MutBor (List ℕ) → Tables
+empty_over entries references roots =
     record {
       cells = 1;
       width = 1;
       objects = 0;
       references = 0;
       roots = 0;
-      object_table = entries;
-      reference_table = references;
-      root_table = roots;
-      lenders = lenders;
+      object_table = entries.now;
+      reference_table = references.now;
+      root_table = roots.now;
+      lenders = record { object_table = entries.ghost_name; reference_table = references.ghost_name; root_table = roots.ghost_name };
     }

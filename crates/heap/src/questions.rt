@@ -13,7 +13,7 @@ impl<'a> CheckedHeap<'a> {
         reference_table: &'a mut [u16],
         root_table: &'a mut [u16],
     ) -> CheckedHeap<'a>
-        ensures { tables_of result ≡ empty_over object_table.old reference_table.old root_table.old (record { object_table = object_table.entry.ghost_name; reference_table = reference_table.entry.ghost_name; root_table = root_table.entry.ghost_name }) }
+        ensures { tables_of result ≡ empty_over object_table.entry reference_table.entry root_table.entry }
     {
         CheckedHeap {
             cells: 1,
@@ -41,12 +41,12 @@ impl<'a> CheckedHeap<'a> {
         ensures value { result ≡ cells_in (heap_of self.now).objects }
         ensures within { result ≤ self.now.cells }
     {
-        lengths(&self.object_table[..self.objects])
+        total_length(&self.object_table[..self.objects])
     }
 }
 
-// The sum of the objects' lengths. It cannot wrap, since no heap has more entries.
-fn lengths(entries: &[ObjectEntry]) -> usize
+// The sum of the lengths of entries. That of 65,535 cannot wrap, and no heap has more objects.
+fn total_length(entries: &[ObjectEntry]) -> usize
     requires { length entries.now ≤ 65535 }
     ensures { result ≡ sum_by (λ e. e.len) entries.now }
 {

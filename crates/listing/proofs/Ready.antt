@@ -5,7 +5,7 @@ use Rattle.refusal.specs.declared.Refusal.TheVariants.{Memory}
 use Rattle.refusal.specs.Table.{fault}
 use Rattle.heap.specs.Heap.{references_in}
 use Rattle.heap.specs.Kept.{Kept}
-use Rattle.heap.specs.Tables.{Tables, empty_over, filled}
+use Rattle.heap.specs.Tables.{Tables, filled}
 use Rattle.heap.proofs.Filled.{filled_kept}
 use Rattle.listing.specs.declared.settings.Totals.{Totals}
 use Rattle.listing.specs.Reading.{Accepted, totals_of}
@@ -16,7 +16,18 @@ use Rattle.listing.proofs.Accepting.{exact}
 
 -- the empty heap over the same tables
 abbrev pub emptied : Tables → Tables
-emptied t = empty_over t.object_table t.reference_table t.root_table t.lenders
+emptied t =
+    record {
+      cells = 1;
+      width = 1;
+      objects = 0;
+      references = 0;
+      roots = 0;
+      object_table = t.object_table;
+      reference_table = t.reference_table;
+      root_table = t.root_table;
+      lenders = t.lenders;
+    }
 
 room_parts : (n : Totals) (t : Tables) → true ≡ room_for n t
     → (n.header.objects ≤ length t.object_table) × (n.references ≤ length t.reference_table) × (n.roots ≤ length t.root_table)

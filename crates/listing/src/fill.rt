@@ -5,7 +5,6 @@ ghost use Rattle.listing.specs.Rules.{Objects};
 ghost use Rattle.listing.specs.Judge.{judge_text};
 ghost use Rattle.listing.specs.declared.settings.Settings.{Settings};
 ghost use Rattle.listing.specs.Pieces.{numbers, number_in};
-ghost use Rattle.listing.specs.Survey.{NumbersIn};
 ghost use Rattle.listing.specs.Filling.{with_object, with_roots, with_heap, BodyFits, ObjectsFilled};
 
 use crate::lines::Lines;
@@ -24,26 +23,25 @@ fn number_in(piece: &[u8]) -> u16
     u16::try_from(n).unwrap_or(u16::MAX)
 }
 
-// Writes the numbers of a list into its places, which are as many.
-fn fill_numbers(list: &[u8], places: &mut [u16])
-    requires { NumbersIn list.now (length places.old) }
-    ensures { places.new ≡ numbers list.now }
+// Writes the numbers of a list into places, one each.
+fn fill_numbers(list: NumberList<'_>, places: &mut [u16])
+    requires { list.count ≡ length places.old }
+    ensures { places.new ≡ numbers list.entry.text.now }
 {
     // by index: of what `iter_mut` lends, a proof knows only how many there are
-    for (i, piece) in (0..places.len()).zip(list.split(|byte| *byte == b',')) {
+    for (i, piece) in (0..places.len()).zip(list.text.split(|byte| *byte == b',')) {
         places[i] = number_in(piece);
     }
 }
 
 // Writes an object, its entry at place `i` and its references from place `first` on. The heap has no objects yet.
 fn fill_object(object: ObjectLines<'_>, i: usize, first: usize, heap: &mut CheckedHeap)
-    requires listed { NumbersIn object.refs.text.now object.refs.count }
     requires room { (i < length heap.old.object_table.now) × (first + object.refs.count ≤ length heap.old.reference_table.now) × (first + object.refs.count ≤ 262144) }
     requires empty { (heap.old.objects ≡ 0) × (heap.old.references ≡ 0) }
     ensures { tables_of heap.new ≡ with_object i (record { at = object.entry.at; len = object.entry.len; first = first; count = object.entry.refs.count }) (numbers object.entry.refs.text.now) (tables_of heap.old) }
 {
     let behind = first + object.refs.count;
-    fill_numbers(object.refs.text, &mut heap.reference_table[first..behind]);
+    fill_numbers(object.refs, &mut heap.reference_table[first..behind]);
     heap.object_table[i] = ObjectEntry {
         at: object.at,
         len: object.len,
@@ -74,12 +72,11 @@ fn fill_objects<'t>(
 
 // Writes the roots. The heap has no roots yet.
 fn fill_roots(roots: NumberList<'_>, heap: &mut CheckedHeap)
-    requires listed { NumbersIn roots.text.now roots.count }
     requires room { roots.count ≤ length heap.old.root_table.now }
     requires empty { heap.old.roots ≡ 0 }
     ensures { tables_of heap.new ≡ with_roots roots.entry.count (numbers roots.entry.text.now) (tables_of heap.old) }
 {
-    fill_numbers(roots.text, &mut heap.root_table[..roots.count]);
+    fill_numbers(roots, &mut heap.root_table[..roots.count]);
 }
 
 // Reads the lines behind the header once more, and fills the tables. The heap is empty, and the listing is known to be right.

@@ -1,5 +1,4 @@
 ghost use Rattle.std.specs.Prelude.{◌≡◌, ◌+◌, ◌<◌, ◌^◌, ◌≤◌, IfOk, Ok, Err, MatchResult};
-ghost use Rattle.listing.specs.Survey.{NumbersIn};
 ghost use Rattle.listing.specs.Lines.{value_at, read_roots};
 
 use crate::key::Key;
@@ -38,7 +37,6 @@ impl<'t> Lines<'t> {
         requires { self.old.number + 1 < 2 ^ 32 }
         ensures value { MatchResult result (λ l. read_roots self.old.number objects self.old.text.now ≡ Ok ((l.count, l.text.now), self.new.text.now)) (λ f. read_roots self.old.number objects self.old.text.now ≡ Err f) }
         ensures number { IfOk result (λ _. self.new.number ≡ self.old.number + 1) }
-        ensures counts { IfOk result (λ l. NumbersIn l.text.now l.count × (0 + l.count ≤ 4096)) }
     {
         self.value(Key::Roots)?.list(0, 4096, objects)
     }

@@ -1,5 +1,4 @@
 ghost use Rattle.std.specs.Prelude.{◌≡◌, ℕ, ◌+◌, ◌≤◌, IfOk, Ok, Err, MatchResult};
-ghost use Rattle.listing.specs.Survey.{NumbersIn};
 
 use crate::key::Key;
 use crate::lines::Lines;
@@ -45,7 +44,7 @@ impl<'t> ObjectReader<'t> {
         requires { self.old.lines.number ≤ 196608 }
         ensures value { MatchResult result (λ o. object_at self.old ≡ Ok ((o.at, o.len, (o.refs.count, o.refs.text.now)), self.new.lines.text.now)) (λ f. object_at self.old ≡ Err f) }
         ensures after { IfOk result (λ o. GoesOn self.old o self.new) }
-        ensures counts { IfOk result (λ o. NumbersIn o.refs.text.now o.refs.count × (self.old.references + o.refs.count ≤ 262144)) }
+        ensures within { IfOk result (λ o. self.old.references + o.refs.count ≤ 262144) }
     {
         let at = self.lines.value(Key::At)?.start(self.end)?;
         let len = self.lines.value(Key::Len)?.length(at, self.header.cells)?;

@@ -15,7 +15,7 @@ use refusal::{Fault, Refusal};
 
 // Makes the heap the empty one, which is lawful whatever its tables hold.
 fn clear(heap: &mut CheckedHeap)
-    ensures { tables_of heap.new ≡ empty_over heap.old.object_table.now heap.old.reference_table.now heap.old.root_table.now (lenders_of heap.old) }
+    ensures { tables_of heap.new ≡ empty_over heap.old.object_table heap.old.reference_table heap.old.root_table }
 {
     heap.objects = 0;
     heap.references = 0;

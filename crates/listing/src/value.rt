@@ -16,11 +16,12 @@ pub struct Value<'t> {
     pub line: u32,
 }
 
-// A list of numbers in text, and how many there are.
+// A list of numbers in text, and how many there are: they are counted once, and each is known to be small.
 #[derive(Clone, Copy)]
 pub struct NumberList<'t> {
     pub text: &'t [u8],
     pub count: usize,
+    ghost listed: { NumbersIn text.now count },
 }
 
 impl<'t> Value<'t> {
@@ -109,7 +110,7 @@ impl<'t> Value<'t> {
     ) -> Result<NumberList<'t>, Fault>
         requires { most ≤ 262144 }
         ensures value { MatchResult result (λ l. on_line self.entry.line (list_in before most objects self.entry.text.now) ≡ Ok (l.count, l.text.now)) (λ f. on_line self.entry.line (list_in before most objects self.entry.text.now) ≡ Err f) }
-        ensures counts { IfOk result (λ l. NumbersIn l.text.now l.count × (before + l.count ≤ most)) }
+        ensures within { IfOk result (λ l. before + l.count ≤ most) }
     {
         let text = self.text;
         let count = self.on_line(count_in(text, before, most, objects))?;

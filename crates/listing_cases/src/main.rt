@@ -82,7 +82,7 @@ fn judge_case(rt: &HostRuntime, case: &[u8]) -> anyhow::Result<()> {
     let text = listing(rt.alloc(), case)?;
     let answer = match judge_listing(rt.alloc(), &text) {
         Ok(sheet) => sheet.to_string(rt.alloc())?,
-        Err(refusal @ JudgeError::Refused(_)) => refusal.to_string(rt.alloc())?,
+        Err(error @ JudgeError::Refused(_)) => error.to_string(rt.alloc())?,
         Err(error) => return Err(error.into()),
     };
     rt.println(answer.replace(rt.alloc(), '\n', "/")?)?;

@@ -24,7 +24,7 @@ pub enum Refusal {
     Section = 12,
 }
 
-// A refusal, and the line of the listing that it is found on. The rules count a missing line as line 0, so this is no Option.
+// A refusal, and the line of the listing that it is found on. 0 stands for no line, by the rules and in print, so this is no Option.
 #[derive(Clone, Copy, PartialEq, Eq, Debug)]
 pub struct Fault {
     pub refusal: Refusal,

@@ -1,4 +1,4 @@
-ghost use Rattle.std.specs.Prelude.{◌≡◌, ◌≢◌, ℕ, ◌≤◌, length, codes, Some, Err};
+ghost use Rattle.std.specs.Prelude.{◌≡◌, ◌≢◌, ℕ, ◌≤◌, length, Some, Err};
 ghost use Rattle.heap.specs.Heap.{Heap, Lawful};
 ghost use Rattle.listing.specs.Written.{written, InRange};
 ghost use Rattle.listing.specs.declared.settings.Settings.{Settings};

@@ -49,7 +49,7 @@ impl Sheet {
     }
 }
 
-// One line a number, key=value.
+// One line each, key=value.
 impl fmt::Display for Sheet {
     ghost use Rattle.sheet.specs.Texts.{sheet_lines};
 

@@ -42,7 +42,7 @@ returns c =
       value =
           accepted_read c.args.text.now c.in_ok-header.body.text.now c.in_ok-references.lines.text.now c.in_ok-roots.roots.text.now c.roots.new.self.text.now
           h c.in_ok-references.references c.in_ok-roots.roots.count c.in_ok-header.ensures.value c.in_ok-references.ensures.0 (at ∙ c.in_ok-roots.ensures.value)
-          (nil_from_length c.roots.new.self.text.now (search rules)) c.in_ok-roots.ensures.counts.0.counted;
+          (nil_from_length c.roots.new.self.text.now (search rules)) c.in_ok-roots.roots.listed.counted;
       number = c.in_ok-header.ensures.numbers;
     }
 

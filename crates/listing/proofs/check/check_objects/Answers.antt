@@ -13,7 +13,7 @@ pub loop-preserved : goal.loop-preserved
 loop-preserved c =
     let e = c.in_ok-next_object.ensures in
     one_more_so_far c.args.header c.args.lines.text.now c.loop.counter c.loop.objects c.next_object.new.self c.in_ok-next_object.field-0
-    c.loop.invariant c.loop-test.true e.value e.after e.counts.0.counted e.counts.1
+    c.loop.invariant c.loop-test.true e.value e.after c.in_ok-next_object.field-0.refs.listed.counted e.within
 
 pub returns-in_err-next_object : goal.returns-in_err-next_object
 returns-in_err-next_object c =

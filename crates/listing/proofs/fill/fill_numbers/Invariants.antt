@@ -7,4 +7,4 @@ abbrev pub invariant-loop-i : goal.invariant-loop-i
 invariant-loop-i l =
     (goal.iterator-loop-i).can_next l.i-iterator
     × (goal.iterator-loop-i).is_finite l.i-iterator
-    × (l.places ≡ paste l.initial.places 0 (numbers l.list) (length l.yielded))
+    × (l.places ≡ paste l.initial.places 0 (numbers l.list.text.now) (length l.yielded))

@@ -25,7 +25,7 @@ fill_object-requires c =
     let e = c.in_ok-object.ensures in
     let h = c.args.header in
     let old = tables_of c.args.heap.now in
-    let s' = one_more_so_far h c.args.lines.text.now c.loop-i.i c.loop-i.objects c.next_object.new.self c.in_ok-object.object s c.loop-i-test.true e.value e.after e.counts.0.counted e.counts.1 in
+    let s' = one_more_so_far h c.args.lines.text.now c.loop-i.i c.loop-i.objects c.next_object.new.self c.in_ok-object.object s c.loop-i-test.true e.value e.after c.in_ok-object.object.refs.listed.counted e.within in
     let w = references_within (Objects h s'.done (h.objects - (c.loop-i.i + 1))) c.next_object.new.self.lines.number c.next_object.new.self.lines.text.now
     c.requires.fits.accepted (sym s'.judged ∙ c.requires.fits.judged) in
     let w₀ = references_within (Objects h s.done (h.objects - c.loop-i.i)) c.loop-i.objects.lines.number c.loop-i.objects.lines.text.now
@@ -33,11 +33,10 @@ fill_object-requires c =
     let refs = length_filled old (tables_of c.loop-i.heap) s.done c.loop-i.invariant.1 (omega (arith, w₀, c.requires.fits.references)) in
     let entries = length_entries_filled old (tables_of c.loop-i.heap) s.done c.loop-i.invariant.1 (omega (arith, s.long, c.requires.fits.objects)) in
     record {
-      listed = e.counts.0;
       room = (
         omega (arith, entries, c.requires.fits.objects),
         omega (arith, w, s'.counted, e.after.references, refs, c.requires.fits.references),
-        e.counts.1,
+        e.within,
       );
       empty = (ap (λ t. t.objects) c.loop-i.invariant.1 ∙ c.requires.empty.0, ap (λ t. t.references) c.loop-i.invariant.1 ∙ c.requires.empty.1);
     }
@@ -47,9 +46,9 @@ loop-i-preserved c =
     let s = c.loop-i.invariant.0 in
     let o = c.in_ok-object.object in
     let e = c.in_ok-object.ensures in (
-      one_more_so_far c.args.header c.args.lines.text.now c.loop-i.i c.loop-i.objects c.next_object.new.self o s c.loop-i-test.true e.value e.after e.counts.0.counted e.counts.1,
+      one_more_so_far c.args.header c.args.lines.text.now c.loop-i.i c.loop-i.objects c.next_object.new.self o s c.loop-i-test.true e.value e.after c.in_ok-object.object.refs.listed.counted e.within,
       c.fill_object.ensures
           ∙ ap (λ k. with_object k (record { at = o.at; len = o.len; first = c.loop-i.objects.references; count = o.refs.count }) (numbers o.refs.text.now) (tables_of c.loop-i.heap)) c.from.ensures
           ∙ filled_more (tables_of c.args.heap.now) (tables_of c.loop-i.heap) s.done (object_read (o.at, o.len, (o.refs.count, o.refs.text.now))) c.loop-i.i
-          c.loop-i.objects.references o.refs.count c.loop-i.invariant.1 s.long (omega (arith, c.requires.fits.objects)) s.counted e.counts.0.counted,
+          c.loop-i.objects.references o.refs.count c.loop-i.invariant.1 s.long (omega (arith, c.requires.fits.objects)) s.counted c.in_ok-object.object.refs.listed.counted,
     )

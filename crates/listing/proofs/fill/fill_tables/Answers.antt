@@ -23,8 +23,7 @@ fill_roots-requires c =
     let n : length c.requires.fits.accepted.0.roots ≡ length (numbers r.text.now) = ap (λ x. length x.0.roots) s in
     let table : length (tables_of c.fill_objects.new.heap).root_table ≡ length (tables_of c.args.heap.now).root_table = ap (λ t. length t.root_table) f.0.tables in
     record {
-      listed = c.in_ok-roots.ensures.counts.0;
-      room = omega (arith, n, table, c.requires.fits.roots, c.in_ok-roots.ensures.counts.0.counted);
+      room = omega (arith, n, table, c.requires.fits.roots, c.in_ok-roots.roots.listed.counted);
       empty = ap (λ t. t.roots) f.0.tables ∙ c.requires.empty.2;
     }
 
@@ -34,6 +33,6 @@ returns c =
     let r = c.in_ok-roots.roots in
     let at = ap (λ n. read_roots n c.args.header.objects c.in_ok-rest.rest.text.now) (sym f.1) in
     λ x e. c.fill_roots.ensures
-    ∙ roots_filled (tables_of c.args.heap.now) (tables_of c.fill_objects.new.heap) c.args.header f.0.done (numbers r.text.now) r.count x f.0.tables c.in_ok-roots.ensures.counts.0.counted
+    ∙ roots_filled (tables_of c.args.heap.now) (tables_of c.fill_objects.new.heap) c.args.header f.0.done (numbers r.text.now) r.count x f.0.tables c.in_ok-roots.roots.listed.counted
     (same_heap c.args.header f.0.done (6 + 3 * c.args.header.objects) r.count c.in_ok-rest.rest.text.now r.text.now c.roots.new.self.text.now x
     (sym f.0.judged ∙ e) (at ∙ c.in_ok-roots.ensures.value))
