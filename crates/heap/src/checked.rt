@@ -4,7 +4,8 @@ ghost use Rattle.heap.specs.Tables.{entry_at, counted_to};
 
 use crate::entry::ObjectEntry;
 
-// A heap in tables that the caller lends. The tables may be longer than the heap needs: what lies behind is not its own.
+// A heap in tables that the caller lends. The tables may be longer than the heap needs: what lies behind is not its own, so each has its
+// number of places beside it, and no Vec can hold what is lent.
 // The ghost fields are the law of a heap, and hold of every value.
 #[derive(Drop)]
 pub struct CheckedHeap<'a> {
@@ -28,7 +29,7 @@ pub struct CheckedHeap<'a> {
     // the references of each object follow those of the one before
     ghost follow: { (k : ℕ) → k < objects → (entry_at object_table.now k).first ≡ counted_to k object_table.now },
     ghost counted: { references ≡ counted_to objects object_table.now },
-    // every reference and every root is an object's number, or 0
+    // every reference and every root is an object's number, or 0 for none: the words of the tables have no room for an Option
     ghost known: { (k : ℕ) → k < references → slice_index_or reference_table.now k 0 ≤ objects },
     ghost rooted: { (k : ℕ) → k < roots → slice_index_or root_table.now k 0 ≤ objects },
 }

@@ -1,4 +1,4 @@
-// An object in the object table: the cells it covers, where in the reference table its references begin, and how many there are.
+// An object in the object table: the cells it covers, where in the reference table its references begin, and how many there are. Indices, since the references of all objects lie in one lent table.
 #[derive(Clone, Copy, Default, PartialEq, Eq, Debug)]
 pub struct ObjectEntry {
     pub at: u16,

@@ -3,41 +3,39 @@ ghost use Rattle.listing.specs.Rules.{Objects};
 ghost use Rattle.listing.specs.Judge.{judge, judge_text};
 ghost use Rattle.listing.specs.Reading.{ObjectsRead, Accepted};
 
-use crate::header::read_header;
-use crate::lines::Lines;
+use crate::header::{Body, read_header};
 use crate::objects::ObjectReader;
-use crate::settings::{Header, Totals};
+use crate::settings::Totals;
 use refusal::{Fault, Refusal};
 
-// Looks through the lines of all objects: the number of their references, and the lines behind them.
-fn check_objects(header: Header, lines: Lines<'_>) -> Result<(usize, Lines<'_>), Fault>
-    requires { lines.number ≡ 6 }
-    ensures { MatchResult result (λ p. ObjectsRead header lines.entry.text.now p.0 p.1.text.now × (p.1.number ≡ 6 + 3 * header.objects)) (λ f. judge_text (Objects header [] header.objects) 6 lines.entry.text.now ≡ Err f) }
+// Looks through the lines of all objects: the reader behind the last of them.
+fn check_objects(body: Body<'_>) -> Result<ObjectReader<'_>, Fault>
+    ensures { MatchResult result (λ r. ObjectsRead body.entry.header body.entry.lines.text.now r.references r.lines.text.now × (r.lines.number ≡ 6 + 3 * body.entry.header.objects)) (λ f. judge_text (Objects body.entry.header [] body.entry.header.objects) 6 body.entry.lines.text.now ≡ Err f) }
 {
-    let mut objects = ObjectReader::new(header, lines);
-    for _ in 0..header.objects {
+    let mut objects = ObjectReader::new(body);
+    for _ in 0..body.header.objects {
         objects.next_object()?;
     }
-    Ok((objects.references, objects.lines))
+    Ok(objects)
 }
 
-// Judges a listing, and writes nothing: what it has in all, and the lines behind its header.
-pub(crate) fn check(text: &[u8]) -> Result<(Totals, Lines<'_>), Fault>
-    ensures value { MatchResult result (λ p. Accepted text.now p.0 p.1.text.now) (λ f. judge text.now ≡ Err f) }
-    ensures number { MatchResult result (λ p. p.1.number ≡ 6) (λ _. Unit {0}) }
+// Judges a listing, and writes nothing: what it has in all, and its body.
+pub(crate) fn check(text: &[u8]) -> Result<(Totals, Body<'_>), Fault>
+    ensures { MatchResult result (λ p. Accepted text.now p.0 p.1.lines.text.now × (p.1.header ≡ p.0.header)) (λ f. judge text.now ≡ Err f) }
 {
-    let (header, body) = read_header(text)?;
-    let (references, mut lines) = check_objects(header, body)?;
-    let roots = lines.roots(header.objects)?;
-    if !lines.text.is_empty() {
+    let body = read_header(text)?;
+    let header = body.header;
+    let mut objects = check_objects(body)?;
+    let roots = objects.lines.roots(header.objects)?;
+    if !objects.lines.text.is_empty() {
         return Err(Fault {
             refusal: Refusal::Form,
-            line: lines.number,
+            line: objects.lines.number,
         });
     }
     let totals = Totals {
         header,
-        references,
+        references: objects.references,
         roots: roots.count,
     };
     Ok((totals, body))

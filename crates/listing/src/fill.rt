@@ -7,15 +7,15 @@ ghost use Rattle.listing.specs.declared.settings.Settings.{Settings};
 ghost use Rattle.listing.specs.Pieces.{numbers, number_in};
 ghost use Rattle.listing.specs.Filling.{with_object, with_roots, with_heap, BodyFits, ObjectsFilled};
 
+use crate::header::Body;
 use crate::lines::Lines;
 use crate::number::number;
 use crate::objects::{ObjectLines, ObjectReader};
-use crate::settings::Header;
 use crate::value::NumberList;
 use heap::{CheckedHeap, ObjectEntry};
 use refusal::Fault;
 
-// The number that a piece of a list is; what is none counts as 0, and one above 65,535 as that.
+// The number that a piece of a list is. The listing is known to be right: what is no number counts as 0, and one above 65,535 as that.
 fn number_in(piece: &[u8]) -> u16
     ensures { result ≡ number_in piece.now }
 {
@@ -34,7 +34,8 @@ fn fill_numbers(list: NumberList<'_>, places: &mut [u16])
     }
 }
 
-// Writes an object, its entry at place `i` and its references from place `first` on. The heap has no objects yet.
+// Writes an object, its entry at place `i` and its references from place `first` on. The heap has no objects yet, so its law holds at every
+// write. No From leads from usize to u32: the promise says that `first` and the count fit.
 fn fill_object(object: ObjectLines<'_>, i: usize, first: usize, heap: &mut CheckedHeap)
     requires room { (i < length heap.old.object_table.now) × (first + object.refs.count ≤ length heap.old.reference_table.now) × (first + object.refs.count ≤ 262144) }
     requires empty { (heap.old.objects ≡ 0) × (heap.old.references ≡ 0) }
@@ -50,19 +51,15 @@ fn fill_object(object: ObjectLines<'_>, i: usize, first: usize, heap: &mut Check
     };
 }
 
-// Reads the lines of all objects once more, and fills the tables. The heap is empty, and the listing is known to be right.
-fn fill_objects<'t>(
-    header: Header,
-    lines: Lines<'t>,
-    heap: &mut CheckedHeap,
-) -> Result<Lines<'t>, Fault>
-    requires line { lines.number ≡ 6 }
-    requires fits { BodyFits header lines.text.now (tables_of heap.old) }
+// Reads the lines of all objects once more, and fills the tables. The heap is empty, and the listing is known to be right. Not one
+// function with the first pass: what a closure changes at each object, a proof loses.
+fn fill_objects<'t>(body: Body<'t>, heap: &mut CheckedHeap) -> Result<Lines<'t>, Fault>
+    requires fits { BodyFits body.header body.lines.text.now (tables_of heap.old) }
     requires empty { (heap.old.objects ≡ 0) × (heap.old.references ≡ 0) }
-    ensures { MatchResult result (λ rest. ObjectsFilled header lines.entry.text.now (tables_of heap.old) (tables_of heap.new) rest.text.now × (rest.number ≡ 6 + 3 * header.objects)) (λ _. ⊥) }
+    ensures { MatchResult result (λ rest. ObjectsFilled body.entry.header body.entry.lines.text.now (tables_of heap.old) (tables_of heap.new) rest.text.now × (rest.number ≡ 6 + 3 * body.entry.header.objects)) (λ _. ⊥) }
 {
-    let mut objects = ObjectReader::new(header, lines);
-    for i in 0..header.objects {
+    let mut objects = ObjectReader::new(body);
+    for i in 0..body.header.objects {
         let first = objects.references;
         let object = objects.next_object()?;
         fill_object(object, usize::from(i), first, heap);
@@ -80,18 +77,13 @@ fn fill_roots(roots: NumberList<'_>, heap: &mut CheckedHeap)
 }
 
 // Reads the lines behind the header once more, and fills the tables. The heap is empty, and the listing is known to be right.
-pub(crate) fn fill_tables(
-    header: Header,
-    lines: Lines<'_>,
-    heap: &mut CheckedHeap,
-) -> Result<(), Fault>
-    requires line { lines.number ≡ 6 }
-    requires fits { BodyFits header lines.text.now (tables_of heap.old) }
+pub(crate) fn fill_tables(body: Body<'_>, heap: &mut CheckedHeap) -> Result<(), Fault>
+    requires fits { BodyFits body.header body.lines.text.now (tables_of heap.old) }
     requires empty { (heap.old.objects ≡ 0) × (heap.old.references ≡ 0) × (heap.old.roots ≡ 0) }
-    ensures { MatchResult result (λ _. (x : Heap × Settings) → judge_text (Objects header [] header.objects) 6 lines.entry.text.now ≡ Ok x → tables_of heap.new ≡ with_heap x.0 (tables_of heap.old)) (λ _. ⊥) }
+    ensures { MatchResult result (λ _. (x : Heap × Settings) → judge_text (Objects body.entry.header [] body.entry.header.objects) 6 body.entry.lines.text.now ≡ Ok x → tables_of heap.new ≡ with_heap x.0 (tables_of heap.old)) (λ _. ⊥) }
 {
-    let mut rest = fill_objects(header, lines, heap)?;
-    let roots = rest.roots(header.objects)?;
+    let mut rest = fill_objects(body, heap)?;
+    let roots = rest.roots(body.header.objects)?;
     fill_roots(roots, heap);
     Ok(())
 }

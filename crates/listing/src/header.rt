@@ -6,10 +6,17 @@ use crate::lines::Lines;
 use crate::settings::Header;
 use refusal::Fault;
 
-// The first five lines, and the lines behind them.
-pub(crate) fn read_header(text: &[u8]) -> Result<(Header, Lines<'_>), Fault>
-    ensures value { MatchResult result (λ p. read_header text.now ≡ Ok (p.0, p.1.text.now)) (λ f. read_header text.now ≡ Err f) }
-    ensures numbers { MatchResult result (λ p. p.1.number ≡ 6) (λ _. Unit {0}) }
+// A listing behind its header: the header, and the lines from line 6 on.
+#[derive(Clone, Copy)]
+pub struct Body<'t> {
+    pub header: Header,
+    pub lines: Lines<'t>,
+    ghost sixth: { lines.number ≡ 6 },
+}
+
+// Reads the first five lines.
+pub(crate) fn read_header(text: &[u8]) -> Result<Body<'_>, Fault>
+    ensures { MatchResult result (λ b. read_header text.now ≡ Ok (b.header, b.lines.text.now)) (λ f. read_header text.now ≡ Err f) }
 {
     let mut lines = Lines { text, number: 1 };
     let cells = lines.value(Key::Cells)?.number(1, 65535)?;
@@ -24,5 +31,5 @@ pub(crate) fn read_header(text: &[u8]) -> Result<(Header, Lines<'_>), Fault>
         share,
         objects,
     };
-    Ok((header, lines))
+    Ok(Body { header, lines })
 }

@@ -3,7 +3,7 @@ ghost use Rattle.std.specs.Option.{option_map};
 ghost use Rattle.listing.specs.Keys.{start_of};
 ghost use Rattle.listing.specs.Judge.{behind};
 
-// What a line of a listing says.
+// The key of a line.
 #[derive(Clone, Copy, PartialEq, Eq, Debug)]
 pub enum Key {
     Cells,
@@ -17,7 +17,7 @@ pub enum Key {
     Roots,
 }
 
-// What stands behind these bytes and one = sign.
+// What stands behind these bytes and one = sign. A line is split by a pattern of its bytes: a rule of the project.
 macro_rules! behind {
     ($line:expr, $($byte:literal),+) => {
         match $line {

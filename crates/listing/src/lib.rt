@@ -1,4 +1,4 @@
-// The reader of a listing: number, list, line and listing, each a layer that passes its refusal up.
+// The reader of a listing: number, list, the value of a line, line, header and objects, listing, each a layer that passes its refusal up.
 #![tactic(auto)]
 
 mod check;

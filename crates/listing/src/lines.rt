@@ -14,7 +14,8 @@ pub struct Lines<'t> {
 }
 
 impl<'t> Lines<'t> {
-    // The value of the next line, which has to have this key. A line is closed by byte 10.
+    // The value of the next line, which has to have this key. A line is closed by byte 10. Its number is a u32, as a fault's is, so the
+    // caller says that there is one more.
     pub(crate) fn value(&mut self, key: Key) -> Result<Value<'t>, Fault>
         requires { self.old.number + 1 < 2 ^ 32 }
         ensures value { MatchResult result (λ v. value_at key self.old.number self.old.text.now ≡ Ok (v.text.now, self.new.text.now)) (λ f. value_at key self.old.number self.old.text.now ≡ Err f) }

@@ -5,6 +5,7 @@ ghost use Rattle.std.specs.Str.{all_ascii_digits};
 
 use refusal::Refusal;
 
+// By hand: `parse` refuses a number above u32, which is right in form, and takes a sign.
 // The number that digits write, or the largest u32 where it is larger; a byte that is no digit is a fault in form.
 fn digits(text: &[u8]) -> Result<u32, Refusal>
     ensures { result ≡ (if all_ascii_digits text.now then Ok (min (value_of text.now) (2 ^ 32 - 1)) else Err Form) }

@@ -1,5 +1,6 @@
 ghost use Rattle.std.specs.Prelude.{◌≡◌, ℕ, ◌+◌, ◌≤◌, IfOk, Ok, Err, MatchResult};
 
+use crate::header::Body;
 use crate::key::Key;
 use crate::lines::Lines;
 use crate::settings::Header;
@@ -26,14 +27,14 @@ pub struct ObjectReader<'t> {
 impl<'t> ObjectReader<'t> {
     ghost use Rattle.listing.specs.Reading.{object_at, GoesOn};
 
-    // The reader of all objects, from the lines behind the header on.
-    pub(crate) fn new(header: Header, lines: Lines<'t>) -> ObjectReader<'t>
-        ensures parts { (result.header ≡ header) × (result.lines ≡ lines.entry) }
+    // The reader of all objects.
+    pub(crate) fn new(body: Body<'t>) -> ObjectReader<'t>
+        ensures parts { (result.header ≡ body.entry.header) × (result.lines ≡ body.entry.lines) }
         ensures start { (result.end ≡ 0) × (result.references ≡ 0) }
     {
         ObjectReader {
-            header,
-            lines,
+            header: body.header,
+            lines: body.lines,
             end: 0,
             references: 0,
         }

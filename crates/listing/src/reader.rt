@@ -64,7 +64,7 @@ pub fn read(text: &[u8], heap: &mut CheckedHeap) -> Result<Settings, Fault>
         });
     }
     clear(heap);
-    fill_tables(totals.header, body, heap)?;
+    fill_tables(body, heap)?;
     set_numbers(heap, totals);
     Ok(Settings {
         markers: usize::from(totals.header.markers),

@@ -43,7 +43,7 @@ impl<'t> Value<'t> {
         read.map_err(|refusal| Fault { refusal, line })
     }
 
-    // The number between two bounds that the value is.
+    // The value as a number between two bounds.
     pub(crate) fn number(self, low: u16, high: u16) -> Result<u16, Fault>
         ensures value { result ≡ on_line self.entry.line (numbered low high self.entry.text.now) }
         ensures bounds { IfOk result (λ n. (low ≤ n) × (n ≤ high)) }
@@ -55,7 +55,7 @@ impl<'t> Value<'t> {
         }
     }
 
-    // The width that the value is: it cuts the cells into at most 64 sections.
+    // The value as a width: it cuts the cells into at most 64 sections.
     pub(crate) fn width(self, cells: u16) -> Result<u16, Fault>
         ensures { result ≡ on_line self.entry.line (width_in cells self.entry.text.now) }
     {
@@ -68,7 +68,7 @@ impl<'t> Value<'t> {
         }
     }
 
-    // The start of an object that the value is, at or after the end of the object before.
+    // The value as the start of an object, at or after the end of the object before.
     pub(crate) fn start(self, end: u16) -> Result<u16, Fault>
         ensures { result ≡ on_line self.entry.line (at_in end self.entry.text.now) }
     {
@@ -80,7 +80,7 @@ impl<'t> Value<'t> {
         }
     }
 
-    // The length of an object that the value is: the object ends within the heap.
+    // The value as the length of an object, which ends within the heap.
     pub(crate) fn length(self, at: u16, cells: u16) -> Result<u16, Fault>
         ensures value { result ≡ on_line self.entry.line (len_in at cells self.entry.text.now) }
         ensures within { IfOk result (λ len. at + len ≤ cells) }
@@ -101,14 +101,13 @@ impl<'t> Value<'t> {
         self.on_line(SharingRule::try_from(self.text))
     }
 
-    // The list of numbers that the value is.
+    // The value as a list of numbers.
     pub(crate) fn list(
         self,
         before: usize,
         most: usize,
         objects: u16,
     ) -> Result<NumberList<'t>, Fault>
-        requires { most ≤ 262144 }
         ensures value { MatchResult result (λ l. on_line self.entry.line (list_in before most objects self.entry.text.now) ≡ Ok (l.count, l.text.now)) (λ f. on_line self.entry.line (list_in before most objects self.entry.text.now) ≡ Err f) }
         ensures within { IfOk result (λ l. before + l.count ≤ most) }
     {
@@ -120,13 +119,12 @@ impl<'t> Value<'t> {
 
 // How many numbers a list has: with those before at most `most`, each at most the number of objects.
 fn count_in(text: &[u8], before: usize, most: usize, objects: u16) -> Result<usize, Refusal>
-    requires { most ≤ 262144 }
     ensures value { result ≡ counted before most objects text.now }
     ensures counts { IfOk result (λ n. NumbersIn text.now n × (before + n ≤ most)) }
 {
     let list = survey_list(text)?;
-    let total = before.saturating_add(list.count);
-    if list.largest > 65535 || total > most {
+    let room = most.checked_sub(before);
+    if list.largest > 65535 || room.is_none_or(|room| list.count > room) {
         return Err(Refusal::Range);
     }
     if list.largest > u32::from(objects) {

@@ -10,11 +10,11 @@ use Rattle.listing.proofs.Tables.{filled_more, length_filled, length_entries_fil
 use Rattle.listing.proofs.fill.fill_objects.Goals as goal
 
 pub loop-i-init : goal.loop-i-init
-loop-i-init c = (none_so_far c.args.header c.args.lines c.new-objects.result c.requires.line c.new-objects.ensures.parts c.new-objects.ensures.start, refl)
+loop-i-init c = (none_so_far c.args.body.header c.args.body.lines c.new-objects.result c.args.body.sixth c.new-objects.ensures.parts c.new-objects.ensures.start, refl)
 
 pub returns-in_err-object : goal.returns-in_err-object
 returns-in_err-object c =
-    let stop = stop_so_far c.args.header c.args.lines.text.now c.loop-i.i c.loop-i.objects c.in_err-object.field-0.0 c.loop-i.invariant.0 c.loop-i-test.true c.in_err-object.ensures.value in
+    let stop = stop_so_far c.args.body.header c.args.body.lines.text.now c.loop-i.i c.loop-i.objects c.in_err-object.field-0.0 c.loop-i.invariant.0 c.loop-i-test.true c.in_err-object.ensures.value in
     let right = c.requires.fits.judged in
     let z : ◌≡◌ {A = ℕ} 0 1 = cc in
     absurd (omega arith)
@@ -23,9 +23,9 @@ pub fill_object-requires : goal.fill_object-requires
 fill_object-requires c =
     let s = c.loop-i.invariant.0 in
     let e = c.in_ok-object.ensures in
-    let h = c.args.header in
+    let h = c.args.body.header in
     let old = tables_of c.args.heap.now in
-    let s' = one_more_so_far h c.args.lines.text.now c.loop-i.i c.loop-i.objects c.next_object.new.self c.in_ok-object.object s c.loop-i-test.true e.value e.after c.in_ok-object.object.refs.listed.counted e.within in
+    let s' = one_more_so_far h c.args.body.lines.text.now c.loop-i.i c.loop-i.objects c.next_object.new.self c.in_ok-object.object s c.loop-i-test.true e.value e.after c.in_ok-object.object.refs.listed.counted e.within in
     let w = references_within (Objects h s'.done (h.objects - (c.loop-i.i + 1))) c.next_object.new.self.lines.number c.next_object.new.self.lines.text.now
     c.requires.fits.accepted (sym s'.judged ∙ c.requires.fits.judged) in
     let w₀ = references_within (Objects h s.done (h.objects - c.loop-i.i)) c.loop-i.objects.lines.number c.loop-i.objects.lines.text.now
@@ -46,7 +46,7 @@ loop-i-preserved c =
     let s = c.loop-i.invariant.0 in
     let o = c.in_ok-object.object in
     let e = c.in_ok-object.ensures in (
-      one_more_so_far c.args.header c.args.lines.text.now c.loop-i.i c.loop-i.objects c.next_object.new.self o s c.loop-i-test.true e.value e.after c.in_ok-object.object.refs.listed.counted e.within,
+      one_more_so_far c.args.body.header c.args.body.lines.text.now c.loop-i.i c.loop-i.objects c.next_object.new.self o s c.loop-i-test.true e.value e.after c.in_ok-object.object.refs.listed.counted e.within,
       c.fill_object.ensures
           ∙ ap (λ k. with_object k (record { at = o.at; len = o.len; first = c.loop-i.objects.references; count = o.refs.count }) (numbers o.refs.text.now) (tables_of c.loop-i.heap)) c.from.ensures
           ∙ filled_more (tables_of c.args.heap.now) (tables_of c.loop-i.heap) s.done (object_read (o.at, o.len, (o.refs.count, o.refs.text.now))) c.loop-i.i

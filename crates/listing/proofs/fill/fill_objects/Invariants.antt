@@ -6,5 +6,5 @@ use Rattle.listing.proofs.fill.fill_objects.Given as goal
 
 abbrev pub invariant-loop-i : goal.invariant-loop-i
 invariant-loop-i l =
-    (s : ObjectsSoFar l.fn.header l.fn.lines.text.now l.i l.objects)
+    (s : ObjectsSoFar l.fn.body.header l.fn.body.lines.text.now l.i l.objects)
     × (tables_of l.heap ≡ with_objects s.done (tables_of l.initial.heap))
