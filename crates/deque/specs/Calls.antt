@@ -10,15 +10,18 @@ module _ {X : Type 0} (d d' : Deque X) where
   abbrev pub SameLender : Type 0
   SameLender = d'.places.ghost_name ≡ d.places.ghost_name
 
+  -- a push by its answer; a pop at the top then gives the element back
   pub record DequePushes (x : X) (r : Result (Unit {0}) Refusal) : Type 0 where
     pub pushed : Pushes d.ends d'.ends d.places.now d'.places.now x r
     pub lender : SameLender
     pub back : ComesBack d.ends d'.ends d.places.now d'.places.now x r
 
+  -- a pop at the top by its answer: the newest element
   pub record DequePopsTop (r : Option X) : Type 0 where
     pub popped : PopsTop d.ends d'.ends d.places.now d'.places.now r
     pub lender : SameLender
 
+  -- a pop at the bottom by its answer: the oldest element, whatever was pushed before
   pub record DequePopsBottom (r : Option X) : Type 0 where
     pub popped : PopsBottom d.ends d'.ends d.places.now d'.places.now r
     pub lender : SameLender

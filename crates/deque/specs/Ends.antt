@@ -19,11 +19,14 @@ held_in e places = window e.first e.held places
 abbrev pub above : ℕ → Ends → ℕ
 above n e = wrapped n (e.first + e.held)
 
+-- after a push
 abbrev pub one_more : Ends → Ends
 one_more e = record { first = e.first; held = e.held + 1 }
 
+-- after a pop at the top
 abbrev pub without_top : Ends → Ends
 without_top e = record { first = e.first; held = e.held - 1 }
 
+-- after a pop at the bottom: the place after the first is first now
 abbrev pub without_bottom : ℕ → Ends → Ends
 without_bottom n e = record { first = wrapped n (e.first + 1); held = e.held - 1 }

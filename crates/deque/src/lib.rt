@@ -35,6 +35,7 @@ fn place_after(n: usize, first: usize, by: usize) -> usize
 }
 
 // A deque that is in use: its ends, and the places that it is lent. The first place is one of them, or 0 where there are none.
+// The places are lent for each use, and only the ends are kept, so no Vec.
 #[derive(Drop)]
 pub struct Deque<'a, X> {
     ends: Ends,
@@ -68,7 +69,8 @@ impl<'a, X: Copy> Deque<'a, X> {
         ensures fitting { fitted (length self.now.places.now) result ≡ result }
         ensures count { length (held_in result self.now.places.now) ≡ result.held }
     {
-        self.ends
+        let Deque { ends, .. } = self;
+        *ends
     }
 
     // Puts `x` on the top. Refused as full exactly if every place is held.

@@ -1,20 +1,11 @@
 -- The newest task of a pair in a pool. Assumes nothing.
-use Rattle.std.proofs.Common.{◌≡◌, ℕ, zero, suc, ◌+◌, ◌-◌, ◌<◌, eqb, List, [], ◌∷◌, ◌++◌, get_or, Some, None, Option, sym, refl, ap, ◌∙◌, ⊎_elim, append_assoc, add-zero, zero-add, arith}
+use Rattle.std.proofs.Common.{◌≡◌, ℕ, zero, suc, ◌+◌, ◌<◌, eqb, List, [], ◌∷◌, ◌++◌, get_or, Some, None, Option, sym, refl, ap, ◌∙◌, ⊎_elim, append_assoc, add-zero, zero-add, arith}
 use Rattle.std.specs.Prelude.{IfSome, IfNone}
-use native.Mathlib.Numerals.{unary_clauses}
 use Rattle.std.proofs.lemmas.Bool.{eq-eqb, ne_eqb, cases_eq, cond-true, cond-false}
 use Rattle.std.proofs.lemmas.List.{append-nil}
 use Rattle.exchange.specs.Places.{task_at, tasks_from, newest_of}
 
 module _ (q : ℕ) (pairs : List ℕ) where
-  newest_here : (k : ℕ) → 0 < k → get_or pairs (k - 1) 0 ≡ q → newest_of q pairs k ≡ Some (k - 1)
-  newest_here zero l e = absurd (omega arith)
-  newest_here (suc k) l e = simp unary_clauses (cond-true (eqb (get_or pairs k 0) q) (Some k) (newest_of q pairs k) (eq-eqb (get_or pairs k 0) q (simp unary_clauses at e)))
-
-  newest_below : (k : ℕ) → 0 < k → (get_or pairs (k - 1) 0 ≡ q → ⊥) → newest_of q pairs k ≡ newest_of q pairs (k - 1)
-  newest_below zero l ne = absurd (omega arith)
-  newest_below (suc k) l ne = simp unary_clauses (cond-false (eqb (get_or pairs k 0) q) (Some k) (newest_of q pairs k) (ne_eqb (get_or pairs k 0) q (simp unary_clauses at ne)))
-
   -- what a search from behind finds
   pub newest_is : (n : ℕ) (r : Option ℕ)
       → IfSome r (λ k. k < n) → IfSome r (λ k. get_or pairs k 0 ≡ q) → IfSome r (λ k. (j : ℕ) → k < j → j < n → get_or pairs j 0 ≡ q → ⊥)

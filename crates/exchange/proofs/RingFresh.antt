@@ -4,7 +4,7 @@ use Rattle.std.specs.Borrow.{MutBor}
 use lib.ListN.{length-replicate}
 use Rattle.std.proofs.lemmas.List.{get_or-replicate, append-nil, places, same_lists}
 use Rattle.exchange.specs.Pairs.{pairs_of}
-use Rattle.exchange.specs.Entries.{entries_of, filled, tasks, start, IsRing}
+use Rattle.exchange.specs.Entries.{entries_of, filled, tasks, at_start, IsRing}
 use Rattle.exchange.specs.RingMeaning.{new_ring, pair_cursors, ring_tasks}
 use Rattle.exchange.proofs.EntryParts.{row_le}
 use Rattle.exchange.proofs.Turns.{filled_zeros}
@@ -14,7 +14,7 @@ no_tasks : (n : ℕ) → tasks (replicate n 0) 0 ≡ []
 unfolding tasks
 no_tasks n = ap filled (append-nil (replicate n 0)) ∙ filled_zeros n
 
-vacant_ring : (n : ℕ) → 1 ≤ n → IsRing start (replicate n 0)
+vacant_ring : (n : ℕ) → 1 ≤ n → IsRing at_start (replicate n 0)
 vacant_ring n some = let whole : n ≡ n - 0 = omega arith in record {
   within = rw length-replicate some;
   after = rw (length-replicate, no_tasks n) (sym (mod-eq_of_lt some));
@@ -28,14 +28,14 @@ module _ (m len : ℕ) (words : MutBor (List ℕ)) (holds : 1 ≤ len) (few : pa
   vacant : (q : ℕ) → q < pairs_of m → entries_of len q (new_ring m len words).words ≡ replicate len 0
   vacant q l = vacant_entries (pairs_of m * len) q len (drop (pairs_of m * len) words.now) (row_le q (pairs_of m) len l)
 
-  at_start : (q : ℕ) → q < pairs_of m → pair_cursors (new_ring m len words) q ≡ start
-  at_start q l = get_or-replicate 240 q start start (omega arith)
+  cursors_fresh : (q : ℕ) → q < pairs_of m → pair_cursors (new_ring m len words) q ≡ at_start
+  cursors_fresh q l = get_or-replicate 240 q at_start at_start (omega arith)
 
   pub none_wait : (q : ℕ) → q < pairs_of m → ring_tasks (new_ring m len words) q ≡ []
-  none_wait q l = rw (vacant q l, at_start q l) (no_tasks len)
+  none_wait q l = rw (vacant q l, cursors_fresh q l) (no_tasks len)
 
   pub fresh_rings : pairs_of m * len ≤ length words.now → Rings (new_ring m len words)
   fresh_rings room = record {
     room = rw (length-append, length-replicate) (omega arith);
-    each = λ q l. rw (vacant q l, at_start q l) (vacant_ring len holds);
+    each = λ q l. rw (vacant q l, cursors_fresh q l) (vacant_ring len holds);
   }

@@ -11,7 +11,7 @@ use Rattle.exchange.specs.declared.cursors.Cursors.{Cursors}
 use Rattle.exchange.specs.declared.ring.Ring.{Ring}
 use Rattle.exchange.specs.Pairs.{Pair, pairs_of, pair_at, Numbered}
 use Rattle.exchange.specs.Calls.{Queues, Joins, Leaves, PutSays, TakeSays}
-use Rattle.exchange.specs.Entries.{entries_of, tasks, start, cursors_of, IsRing, FillsTail, VacatesHead, Unchanged, PairPut, PairTake}
+use Rattle.exchange.specs.Entries.{entries_of, tasks, at_start, cursors_of, IsRing, FillsTail, VacatesHead, Unchanged, PairPut, PairTake}
 use Rattle.exchange.specs.RingMeaning.{RingState, ring_of, pair_cursors, ring_tasks, head_entry, tail_entry, filled_at_tail, vacated_at_head, RingPut, RingTake, ring_serves, ring_waiting, ring_vacant}
 use Rattle.exchange.proofs.Pairings.{number_same}
 use Rattle.exchange.proofs.EntryParts.{row_within, with_part, part_length, part_at, part_same, part_set, words_length, part_here, entries_other}
@@ -44,7 +44,7 @@ module _ (s : RingState) (keeps : Rings s) (q : ℕ) (ql : q < pairs_of s.served
     with_ring = record s { words = with_part s.length (q * s.length) s.words es; cursors = set s.cursors q c }
 
     cursors_here : pair_cursors with_ring q ≡ c
-    cursors_here = get_or-set_same s.cursors q c start few
+    cursors_here = get_or-set_same s.cursors q c at_start few
 
     entries_here : entries_of s.length q with_ring.words ≡ es
     entries_here = part_here s.words es s.length (q * s.length) within (same ∙ long)
@@ -53,7 +53,7 @@ module _ (s : RingState) (keeps : Rings s) (q : ℕ) (ql : q < pairs_of s.served
     entries_there o ne = entries_other s.words es s.length q o within (same ∙ long) ne
 
     cursors_there : (o : ℕ) → (o ≡ q → ⊥) → pair_cursors with_ring o ≡ pair_cursors s o
-    cursors_there o ne = get_or-set_other s.cursors q o c start ne
+    cursors_there o ne = get_or-set_other s.cursors q o c at_start ne
 
     pub rings_with : IsRing c es → Rings with_ring
     rings_with ring = record {
@@ -179,7 +179,7 @@ module _ (r : Ring) (i j q : ℕ) (n : Numbered r.served i j (Ok q)) (few : q < 
   words_stay u = ap (with_part r.length (q * r.length) r.words.now) u ∙ part_same r.words.now [] r.length (q * r.length) room
 
   cursors_stay : c ≡ own → after.cursors ≡ r.cursors
-  cursors_stay u = ap (set r.cursors q) u ∙ set-get_or r.cursors q start
+  cursors_stay u = ap (set r.cursors q) u ∙ set-get_or r.cursors q at_start
 
   stays : Unchanged own c held es → after ≡ ring_of r
   stays u = λ k. record { served = r.served; length = r.length; words = words_stay u.1 k; cursors = cursors_stay u.0 k; lender = r.words.ghost_name }

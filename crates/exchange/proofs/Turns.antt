@@ -6,7 +6,7 @@ use lib.Seq.{take-set-lt}
 use Rattle.std.proofs.lemmas.List.{drop-set-add, drop-set-lt, take-set-le, set-append_left, set-append_right, set_at, get_or_append_left, get_or-append_right, get_or-take, get_or-drop, get_or-replicate, append-nil, take_all, drop_all, replicate_more, drop_more, take_more_set, nil_from_length}
 use Rattle.std.proofs.lemmas.Bool.{cases_lt}
 use Rattle.exchange.specs.declared.cursors.Cursors.{Cursors}
-use Rattle.exchange.specs.Entries.{turned, filled, tasks, TailAfter, Together, following, IsRing, tail_on, head_on, FillsTail, VacatesHead}
+use Rattle.exchange.specs.Entries.{turned, filled, tasks, TailAfter, Together, following, IsRing, tail_moved, head_moved, FillsTail, VacatesHead}
 
 -- past the last entry the count begins again
 round_past : (h n len : ℕ) → len ≤ h + n → h < len → n ≤ len → (h + n) % len ≡ h + n - len
@@ -224,7 +224,7 @@ module _ (c : Cursors) (es : List ℕ) (ring : IsRing c es) where
   something = some_when_held es c.head c.tail (length es) refl ring.within ring.after ring.stand
 
   module _ (v : ℕ) (some : 0 < v) (vacant : get_or es c.tail 0 ≡ 0) where
-    pub put_fills : FillsTail c (tail_on (length es) c) es (set es c.tail v) v
+    pub put_fills : FillsTail c (tail_moved (length es) c) es (set es c.tail v) v
     put_fills = record {
       vacant = vacant;
       room = roomy vacant;
@@ -233,7 +233,7 @@ module _ (c : Cursors) (es : List ℕ) (ring : IsRing c es) where
       joins = put_tasks es c.head c.tail (length es) refl ring.within ring.after ring.stand v some (roomy vacant);
     }
 
-    pub put_ring : IsRing (tail_on (length es) c) (set es c.tail v)
+    pub put_ring : IsRing (tail_moved (length es) c) (set es c.tail v)
     put_ring = record {
       within = simp length-set ring.within;
       after = simp length-set (put_tail es c.head c.tail (length es) refl ring.within ring.after ring.stand v some (roomy vacant));
@@ -241,7 +241,7 @@ module _ (c : Cursors) (es : List ℕ) (ring : IsRing c es) where
     }
 
   module _ (some : 0 < get_or es c.head 0) where
-    pub take_vacates : VacatesHead c (head_on (length es) c) es (set es c.head 0) (get_or es c.head 0)
+    pub take_vacates : VacatesHead c (head_moved (length es) c) es (set es c.head 0) (get_or es c.head 0)
     take_vacates = record {
       task = refl;
       entries = refl;
@@ -249,7 +249,7 @@ module _ (c : Cursors) (es : List ℕ) (ring : IsRing c es) where
       leaves = take_tasks es c.head c.tail (length es) refl ring.within ring.after ring.stand some;
     }
 
-    pub take_ring : IsRing (head_on (length es) c) (set es c.head 0)
+    pub take_ring : IsRing (head_moved (length es) c) (set es c.head 0)
     take_ring = record {
       within = simp length-set (mod-lt (c.head + 1) (omega (arith, ring.within)));
       after = simp length-set (take_tail es c.head c.tail (length es) refl ring.within ring.after ring.stand some);

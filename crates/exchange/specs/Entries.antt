@@ -31,12 +31,12 @@ abbrev pub Together : ℕ → List ℕ → ℕ → Type 0
 Together len entries head = turned entries head ≡ tasks entries head ++ replicate (len - length (tasks entries head)) 0
 
 -- where a ring with vacant entries begins
-abbrev pub start : Cursors
-start = record { head = 0; tail = 0 }
+abbrev pub at_start : Cursors
+at_start = record { head = 0; tail = 0 }
 
 -- the head and the tail of the pair with number q
 abbrev pub cursors_of : ℕ → List Cursors → Cursors
-cursors_of q cursors = slice_index_or cursors q start
+cursors_of q cursors = slice_index_or cursors q at_start
 
 -- what the ring of one pair keeps, of its cursors and its entries
 pub record IsRing (c : Cursors) (entries : List ℕ) : Type 0 where
@@ -49,12 +49,12 @@ abbrev pub following : ℕ → ℕ → ℕ
 following len at = (at + 1) % len
 
 -- the tail moves on by one entry
-abbrev pub tail_on : ℕ → Cursors → Cursors
-tail_on len c = record { head = c.head; tail = following len c.tail }
+abbrev pub tail_moved : ℕ → Cursors → Cursors
+tail_moved len c = record { head = c.head; tail = following len c.tail }
 
 -- the head moves on by one entry
-abbrev pub head_on : ℕ → Cursors → Cursors
-head_on len c = record { head = following len c.head; tail = c.tail }
+abbrev pub head_moved : ℕ → Cursors → Cursors
+head_moved len c = record { head = following len c.head; tail = c.tail }
 
 -- what a put and a take do to the ring of one pair, its cursors (c, then c') and its entries (es, then es')
 module _ (c c' : Cursors) (es es' : List ℕ) where
@@ -63,14 +63,14 @@ module _ (c c' : Cursors) (es es' : List ℕ) where
     pub vacant : slice_index es c.tail ≡ 0
     pub room : length (tasks es c.head) < length es
     pub entries : es' ≡ slice_set es c.tail t
-    pub cursors : c' ≡ tail_on (length es) c
+    pub cursors : c' ≡ tail_moved (length es) c
     pub joins : tasks es' c'.head ≡ tasks es c.head ++ (t ∷ [])
 
   -- the filled entry at the head is vacated, and the head moves on
   pub record VacatesHead (t : ℕ) : Type 0 where
     pub task : t ≡ slice_index es c.head
     pub entries : es' ≡ slice_set es c.head 0
-    pub cursors : c' ≡ head_on (length es) c
+    pub cursors : c' ≡ head_moved (length es) c
     pub leaves : tasks es c.head ≡ t ∷ tasks es' c'.head
 
   -- nothing is changed

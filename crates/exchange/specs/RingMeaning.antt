@@ -8,7 +8,7 @@ use Rattle.exchange.specs.declared.answer.Put.TheVariants.{Joined, NoVacancy}
 use Rattle.exchange.specs.declared.cursors.Cursors.{Cursors}
 use Rattle.exchange.specs.declared.ring.Ring.{Ring}
 use Rattle.exchange.specs.Pairs.{pairs_of, pair_at}
-use Rattle.exchange.specs.Entries.{entries_of, tasks, start, cursors_of, tail_on, head_on}
+use Rattle.exchange.specs.Entries.{entries_of, tasks, at_start, cursors_of, tail_moved, head_moved}
 use Rattle.exchange.specs.Calls.{Queues, Idle}
 
 -- The numbers of a ring, what its words and cursors hold, and which lent words they are.
@@ -50,15 +50,15 @@ tail_entry s q = q * s.length + (pair_cursors s q).tail
 -- a ring as it is made over lent words: every entry vacant, the words behind them as they were; 240 heads and tails, for the pairs of 16 markers
 abbrev pub new_ring : ℕ → ℕ → MutBor (List ℕ) → RingState
 new_ring m len words =
-    record { served = m; length = len; words = replicate (pairs_of m * len) 0 ++ drop (pairs_of m * len) words.now; cursors = replicate 240 start; lender = words.ghost_name }
+    record { served = m; length = len; words = replicate (pairs_of m * len) 0 ++ drop (pairs_of m * len) words.now; cursors = replicate 240 at_start; lender = words.ghost_name }
 
 -- the entry at the tail is filled, and the tail moves on
 abbrev pub filled_at_tail : ℕ → ℕ → RingState → RingState
-filled_at_tail q t s = record s { words = slice_set s.words (tail_entry s q) t; cursors = slice_set s.cursors q (tail_on s.length (pair_cursors s q)) }
+filled_at_tail q t s = record s { words = slice_set s.words (tail_entry s q) t; cursors = slice_set s.cursors q (tail_moved s.length (pair_cursors s q)) }
 
 -- the entry at the head is vacated, and the head moves on
 abbrev pub vacated_at_head : ℕ → RingState → RingState
-vacated_at_head q s = record s { words = slice_set s.words (head_entry s q) 0; cursors = slice_set s.cursors q (head_on s.length (pair_cursors s q)) }
+vacated_at_head q s = record s { words = slice_set s.words (head_entry s q) 0; cursors = slice_set s.cursors q (head_moved s.length (pair_cursors s q)) }
 
 -- what the making of a ring answers, over so many words: the markers and the length are tested, then the memory
 abbrev pub ring_answer : ℕ → ℕ → ℕ → Result (Unit {0}) Refusal

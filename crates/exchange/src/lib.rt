@@ -15,6 +15,6 @@ pub use pool::Pool;
 pub use ring::Ring;
 
 // The most markers that an exchange serves, and the pairs of so many.
-const MARKERS: usize = 16;
+const MOST_MARKERS: usize = 16;
 
-const PAIRS: usize = MARKERS * (MARKERS - 1);
+const PAIRS: usize = MOST_MARKERS * (MOST_MARKERS - 1);

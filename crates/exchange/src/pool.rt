@@ -1,9 +1,8 @@
-ghost use Rattle.std.specs.Prelude.{ℕ, ◌≡◌, ◌<◌, ◌≤◌, length, slice_index, IfSome, IfNone};
+ghost use Rattle.std.specs.Prelude.{ℕ, ◌≡◌, ◌≢◌, ◌<◌, ◌≤◌, length, slice_index, IfSome, IfNone};
 ghost use Rattle.exchange.specs.Pairs.{pairs_of, pair_at};
-ghost use Rattle.exchange.specs.Places.{newest_of};
 ghost use Rattle.exchange.specs.Calls.{PutSays, TakeSays, LookSays};
 
-use crate::MARKERS;
+use crate::MOST_MARKERS;
 use crate::answer::Put;
 use crate::meaning::Exchange;
 use crate::pair::Pair;
@@ -49,10 +48,10 @@ impl<'a> Pool<'a> {
         ensures answer { result ≡ pool_answer markers (length self.old.words.now) }
         ensures made { PoolMade markers self.old self.new result }
     {
-        if !(1..=MARKERS).contains(&markers) {
+        if !(1..=MOST_MARKERS).contains(&markers) {
             return Err(Refusal::Range);
         }
-        if self.words.len() < Self::MOST {
+        if self.words.len() < PLACES {
             return Err(Refusal::Memory);
         }
         self.held = 0;
@@ -75,8 +74,8 @@ impl<'a> Pool<'a> {
     // The place of the newest task of the pair with number `q`.
     fn newest(&self, q: usize) -> Option<usize>
         ensures found { IfSome result (λ k. slice_index self.now.pairs k ≡ q) }
-        ensures last { IfSome result (λ k. (j : ℕ) → k < j → j < self.now.held → slice_index self.now.pairs j ≡ q → ⊥) }
-        ensures none { IfNone result ((j : ℕ) → j < self.now.held → slice_index self.now.pairs j ≡ q → ⊥) }
+        ensures last { IfSome result (λ k. (j : ℕ) → k < j → j < self.now.held → slice_index self.now.pairs j ≢ q) }
+        ensures none { IfNone result ((j : ℕ) → j < self.now.held → slice_index self.now.pairs j ≢ q) }
         ensures held { IfSome result (λ k. k < self.now.held) }
     {
         self.pairs[..self.held]
@@ -131,7 +130,7 @@ impl<'a> Exchange for Pool<'a> {
         if task == 0 {
             return Err(Refusal::Unknown);
         }
-        if self.held >= Self::MOST {
+        if self.held >= PLACES {
             return Ok(Put::NoVacancy);
         }
         self.add(q, task);

@@ -7,10 +7,14 @@ use crate::answer::Put;
 use crate::cursors::Cursors;
 use crate::meaning::Exchange;
 use crate::pair::Pair;
-use crate::{MARKERS, PAIRS};
+use crate::{MOST_MARKERS, PAIRS};
 use refusal::Refusal;
 
-// A ring of `length` entries for each pair, one after the other in the lent words.
+// The longest ring of a pair.
+const LONGEST: usize = 64;
+
+// A ring of `length` entries for each pair, one after the other in the lent words: these are the caller's, of fixed memory, all pairs in one
+// stretch. The cursors stand by pair number.
 #[derive(Drop)]
 pub struct Ring<'a> {
     words: &'a mut [u16],
@@ -45,7 +49,7 @@ impl<'a> Ring<'a> {
         ensures answer { result ≡ ring_answer markers length (count self.old.words.now) }
         ensures made { RingMade markers length self.old self.new result }
     {
-        if !(1..=MARKERS).contains(&markers) || !(1..=Self::MOST).contains(&length) {
+        if !(1..=MOST_MARKERS).contains(&markers) || !(1..=LONGEST).contains(&length) {
             return Err(Refusal::Range);
         }
         let n = markers * (markers - 1) * length;
@@ -60,7 +64,7 @@ impl<'a> Ring<'a> {
     }
 
     // What `look` answers; by `&self`, since behind a `&mut` a proof loses what lent words hold.
-    fn is_idle(&self, pair: Pair) -> Result<bool, Refusal>
+    fn has_none_waiting(&self, pair: Pair) -> Result<bool, Refusal>
         ensures { LookSays ring_serves ring_waiting ring_vacant pair.sender pair.receiver self.now self.now result }
     {
         let q = pair.number(self.served)?;
@@ -82,7 +86,7 @@ impl<'a> Exchange for Ring<'a> {
 
     ghost most = { 64 };
 
-    const MOST: usize = 64;
+    const MOST: usize = LONGEST;
 
     fn capacity() -> usize
         ensures { result ≡ 64 }
@@ -119,7 +123,7 @@ impl<'a> Exchange for Ring<'a> {
         ensures meaning { LookSays ring_serves ring_waiting ring_vacant pair.sender pair.receiver self.old self.new result }
         ensures memory { self.new ≡ self.old }
     {
-        self.is_idle(pair)
+        self.has_none_waiting(pair)
     }
 
     ghost serves_one = { λ x. x.someone };

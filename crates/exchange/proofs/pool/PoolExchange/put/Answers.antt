@@ -4,8 +4,8 @@ use Rattle.exchange.specs.PoolMeaning.{pool_of, added_to}
 use Rattle.exchange.proofs.PoolSteps.{held_waiting, put_joins}
 use Rattle.exchange.proofs.pool.PoolExchange.put.Goals as goal
 
-pub returns-then-self-ge-MOST : goal.returns-then-self-ge-MOST
-returns-then-self-ge-MOST c =
+pub returns-then-self-ge-PLACES : goal.returns-then-self-ge-PLACES
+returns-then-self-ge-PLACES c =
     let s = c.args.self.now in
     record {
       meaning = (c.in_ok-q.ensures.0, omega arith, omega (arith, held_waiting (pool_of s) s.known), refl);

@@ -1,6 +1,6 @@
 -- A ring is set up with vacant entries. Assumes nothing.
 use Rattle.std.proofs.Common.{◌≡◌, ◌≤◌, ◌++◌, ◌*◌, ◌-◌, drop, replicate, ap, arith, rules}
-use Rattle.exchange.specs.Entries.{start}
+use Rattle.exchange.specs.Entries.{at_start}
 use Rattle.exchange.specs.Pairs.{pair_at}
 use Rattle.exchange.proofs.Pairings.{number_lt, pairs_few}
 use Rattle.exchange.proofs.RingFresh.{none_wait, fresh_rings}
@@ -32,6 +32,6 @@ returns-clause-made c =
     let some : 1 ≤ c.args.length = search rules in
     let few : m ≤ 16 = search rules in
     let zeros : c.fill.new.self ≡ replicate (m * (m - 1) * c.args.length) 0 = search rules in (
-      ap (λ ws. record { served = m; length = c.args.length; words = ws ++ drop (m * (m - 1) * c.args.length) words.now; cursors = replicate 240 start; lender = words.ghost_name }) zeros,
+      ap (λ ws. record { served = m; length = c.args.length; words = ws ++ drop (m * (m - 1) * c.args.length) words.now; cursors = replicate 240 at_start; lender = words.ghost_name }) zeros,
       λ i j p. rw zeros (none_wait m c.args.length c.args.self.now.words some (pairs_few m few) (pair_at m i j) (number_lt m i j p)),
     )
