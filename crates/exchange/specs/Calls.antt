@@ -42,12 +42,14 @@ abbrev pub Idle : {X : Type 0} → (X → ℕ) → (X → Queues) → X → Type
 Idle served waiting x = (i j : ℕ) → Pair (served x) i j → waiting x i j ≡ []
 
 module _ {X : Type 0} (served : X → ℕ) (waiting : X → Queues) (vacant : X → ℕ → ℕ → ℕ) where
+  -- a put of t joins its pair's queue, finds no vacancy, or is refused for want of a pair or a task
   abbrev pub PutSays : ℕ → ℕ → ℕ → X → X → Result Put Refusal → Type 0
   PutSays i j t x x' (Ok Joined) =
       Pair (served x) i j × (0 < t) × Tells Joined (vacant x i j) × (served x' ≡ served x) × Joins (served x) i j t (waiting x) (waiting x')
   PutSays i j t x x' (Ok NoVacancy) = Pair (served x) i j × (0 < t) × Tells NoVacancy (vacant x i j) × (x' ≡ x)
   PutSays i j t x x' (Err e) = (e ≡ Unknown) × (Pair (served x) i j → 0 < t → ⊥) × (x' ≡ x)
 
+  -- a take gives and removes a task that waits, finds that none does, or is refused for want of a pair
   abbrev pub TakeSays : ℕ → ℕ → X → X → Result (Option ℕ) Refusal → Type 0
   TakeSays i j x x' (Ok (Some t)) = Pair (served x) i j × (served x' ≡ served x) × Leaves (served x) i j t (waiting x) (waiting x')
   TakeSays i j x x' (Ok None) = Pair (served x) i j × (waiting x i j ≡ []) × (x' ≡ x)
@@ -57,6 +59,7 @@ module _ {X : Type 0} (served : X → ℕ) (waiting : X → Queues) (vacant : X 
   abbrev pub Stays : X → X → Type 0
   Stays x x' = (served x' ≡ served x) × ((a b : ℕ) → Pair (served x) a b → (waiting x' a b ≡ waiting x a b) × (vacant x' a b ≡ vacant x a b))
 
+  -- a look tells whether nothing waits, and changes no list, or is refused for want of a pair
   abbrev pub LookSays : ℕ → ℕ → X → X → Result Bool Refusal → Type 0
   LookSays i j x x' (Ok true) = Pair (served x) i j × (waiting x i j ≡ []) × Stays x x'
   LookSays i j x x' (Ok false) = Pair (served x) i j × (waiting x i j ≢ []) × Stays x x'

@@ -15,6 +15,7 @@ in_column m i c im cm =
     (c + 1, (im, omega arith, λ e. omega arith), rw (le-ltb (c + 1) i above, back)))
     (cases_lt c i)
 
+-- the pair with number q
 pub pair_of : (m q : ℕ) → q < pairs_of m → (i : ℕ) × (j : ℕ) × (Pair m i j) × (pair_at m i j ≡ q)
 pair_of m q l =
     let some : 0 < m - 1 = ⊎_elim (λ (s : 0 < m - 1). s) (λ (n : m - 1 ≤ 0). let z : m - 1 ≡ 0 = omega arith in let none : q < m * 0 = rw z at l in absurd (omega arith)) (cases_lt 0 (m - 1)) in

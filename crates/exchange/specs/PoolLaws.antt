@@ -8,6 +8,7 @@ use Rattle.exchange.specs.Places.{task_at, tasks_from, waiting_below}
 use Rattle.exchange.specs.Calls.{ListsAtMost, VacantWhenIdle}
 use Rattle.exchange.specs.PoolMeaning.{pool_serves, pool_waiting, pool_vacant, pool_of, pool_tasks, all_waiting}
 
+-- one place holds at most one task
 task_short : (q : ℕ) (pairs words : List ℕ) (k : ℕ) → length (task_at q pairs words k) ≤ 1
 task_short q pairs words k = at_most (slice_index pairs k == q)
   where
@@ -15,11 +16,13 @@ task_short q pairs words k = at_most (slice_index pairs k == q)
     at_most true = omega arith
     at_most false = omega arith
 
+-- n places hold at most n tasks of a pair
 tasks_short : (q : ℕ) (pairs words : List ℕ) (k n : ℕ) → length (tasks_from q pairs words k n) ≤ n
 tasks_short q pairs words k zero = omega arith
 tasks_short q pairs words k (suc n) =
     omega (arith, length-append (task_at q pairs words k) (tasks_from q pairs words (suc k) n), task_short q pairs words k, tasks_short q pairs words (suc k) n)
 
+-- where no queue below n holds a task, none waits there
 none_below : (queue : ℕ → List ℕ) (n : ℕ) → ((q : ℕ) → q < n → queue q ≡ []) → waiting_below queue n ≡ 0
 none_below queue zero h = refl
 none_below queue (suc q) h = omega (arith, none_below queue q (λ p l. h p (omega arith)), ap length (h q (omega arith)))
@@ -30,8 +33,10 @@ none_wait p idle = none_below (pool_tasks (pool_of p)) (pairs_of p.served) (λ q
     let of = pair_of p.served q l in
     subst (λ a. pool_tasks (pool_of p) a ≡ []) of.3 (idle of.0 of.1 of.2))
 
+-- no pair has more tasks than the pool has places
 pub pool_lists_at_most : ListsAtMost pool_serves pool_waiting 1024
 pool_lists_at_most p i j r = omega (arith, tasks_short (pair_at p.served i j) p.pairs p.words.now 0 p.held, p.bounded)
 
+-- a pool in which nothing waits has a vacancy
 pub pool_vacant_when_idle : VacantWhenIdle pool_serves pool_waiting pool_vacant
 pool_vacant_when_idle p idle i j r = omega (arith, none_wait p idle)

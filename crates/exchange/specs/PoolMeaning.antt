@@ -18,6 +18,7 @@ pub record PoolState : Type 0 where
   pub pairs : List ℕ
   pub lender : GName
 
+-- the state of a pool
 abbrev pub pool_of : Pool → PoolState
 pool_of p = record { served = p.served; held = p.held; words = p.words.now; pairs = p.pairs; lender = p.words.ghost_name }
 
@@ -25,12 +26,15 @@ pool_of p = record { served = p.served; held = p.held; words = p.words.now; pair
 abbrev pub pool_tasks : PoolState → ℕ → List ℕ
 pool_tasks s q = tasks_from q s.pairs s.words 0 s.held
 
+-- how many tasks wait on all pairs together
 abbrev pub all_waiting : PoolState → ℕ
 all_waiting s = waiting_below (pool_tasks s) (pairs_of s.served)
 
+-- how many markers it serves
 abbrev pub pool_serves : Pool → ℕ
 pool_serves p = p.served
 
+-- the tasks that wait on <i,j>
 abbrev pub pool_waiting : Pool → Queues
 pool_waiting p i j = pool_tasks (pool_of p) (pair_at p.served i j)
 
@@ -76,6 +80,7 @@ pub record Given (q k t : ℕ) (s s' : PoolState) : Type 0 where
   pub after : s' ≡ removed_from k s
   pub newest : pool_tasks s q ≡ pool_tasks s' q ++ (t ∷ [])
 
+-- what a take leaves, by the answer, for the pair with number q
 abbrev pub PoolTake : ℕ → PoolState → PoolState → Result (Option ℕ) Refusal → Type 0
 PoolTake q s s' (Ok (Some t)) = (k : ℕ) × Given q k t s s'
 PoolTake q s s' (Ok None) = (newest_of q s.pairs s.held ≡ None) × (s' ≡ s)

@@ -19,6 +19,7 @@ pub record RingState : Type 0 where
   pub cursors : List Cursors
   pub lender : GName
 
+-- the state of a ring
 abbrev pub ring_of : Ring → RingState
 ring_of r = record { served = r.served; length = r.length; words = r.words.now; cursors = r.cursors; lender = r.words.ghost_name }
 
@@ -30,9 +31,11 @@ pair_cursors s q = cursors_of q s.cursors
 abbrev pub ring_tasks : RingState → ℕ → List ℕ
 ring_tasks s q = tasks (entries_of s.length q s.words) (pair_cursors s q).head
 
+-- how many markers it serves
 abbrev pub ring_serves : Ring → ℕ
 ring_serves r = r.served
 
+-- the tasks that wait on <i,j>
 abbrev pub ring_waiting : Ring → Queues
 ring_waiting r i j = ring_tasks (ring_of r) (pair_at r.served i j)
 
@@ -76,7 +79,7 @@ RingPut q t s s' (Ok Joined) = (slice_index s.words (tail_entry s q) ≡ 0) × (
 RingPut q t s s' (Ok NoVacancy) = (slice_index s.words (tail_entry s q) ≢ 0) × (s' ≡ s)
 RingPut q t s s' (Err e) = s' ≡ s
 
--- the oldest task is given
+-- what a take leaves, by the answer, for the pair with number q: the oldest task is given
 abbrev pub RingTake : ℕ → RingState → RingState → Result (Option ℕ) Refusal → Type 0
 RingTake q s s' (Ok (Some t)) = (t ≡ slice_index s.words (head_entry s q)) × (s' ≡ vacated_at_head q s) × (ring_tasks s q ≡ t ∷ ring_tasks s' q)
 RingTake q s s' (Ok None) = (slice_index s.words (head_entry s q) ≡ 0) × (s' ≡ s)

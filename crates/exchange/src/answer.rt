@@ -2,7 +2,7 @@ ghost use Rattle.std.specs.Prelude.{Some};
 
 use std::fmt;
 
-// What a put answers: the task has joined its queue, or there was no vacancy.
+// What a put answers: the task has joined its queue, or there was no vacancy. These are not yes and no, so an enum says which.
 #[derive(Clone, Copy, PartialEq, Eq, Debug)]
 pub enum Put {
     Joined,

@@ -2,7 +2,9 @@ ghost use Rattle.std.specs.Prelude.{◌≡◌, ◌<◌, [], IsTrue, ◌↔◌};
 
 use crate::answer::Put;
 
-// Where the ring of one pair goes on among its entries: a task joins at the tail and leaves at the head. 0 marks a vacant entry.
+// The two ends of the ring of one pair: a task joins at the tail and leaves at the head.
+// The entries come beside the cursors in each call: a struct of both would hold two loans, of which a proof knows nothing once it is gone.
+// 0 marks a vacant entry: the ring's memory is the caller's words, one a task, by the rules of the exchange.
 #[derive(Clone, Copy, PartialEq, Eq, Debug)]
 pub(crate) struct Cursors {
     head: usize,

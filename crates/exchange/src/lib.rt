@@ -14,7 +14,8 @@ pub use pair::Pair;
 pub use pool::Pool;
 pub use ring::Ring;
 
-// The most markers that an exchange serves, and the pairs of so many.
+// The most markers that an exchange serves.
 const MOST_MARKERS: usize = 16;
 
+// The pairs of so many.
 const PAIRS: usize = MOST_MARKERS * (MOST_MARKERS - 1);

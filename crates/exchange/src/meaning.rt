@@ -5,8 +5,8 @@ use crate::answer::Put;
 use crate::pair::Pair;
 use refusal::Refusal;
 
-// An exchange between markers: for each pair of two markers, both below the number that it serves, a queue that the sender fills and the
-// receiver empties. A call with no such pair is refused as unknown, and so is task 0 put.
+// An exchange between markers: for each pair <i,j> of two markers, both below the number that it serves, a queue that the sender i fills
+// and the receiver j empties. A call with no such pair is refused as unknown, and so is task 0 put.
 pub trait Exchange {
     // how many markers it serves, 1 to 16
     ghost served: { Self → ℕ };
@@ -27,7 +27,7 @@ pub trait Exchange {
     fn capacity() -> usize
         ensures { result ≡ most };
 
-    // How many markers it serves.
+    // How many markers it serves. A trait has no fields, so ring and pool each answer their own.
     fn markers(&self) -> usize
         ensures { result ≡ served self.now };
 

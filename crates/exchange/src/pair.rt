@@ -3,7 +3,8 @@ ghost use Rattle.exchange.specs.Pairs.{Numbered};
 
 use refusal::Refusal;
 
-// The queue that one marker fills and another empties.
+// The queue that one marker fills and another empties. It names one only where the two differ and are both below the number of markers
+// served (spec Pairs.Pair); calls refuse any other as unknown.
 #[derive(Clone, Copy, PartialEq, Eq, Debug)]
 pub struct Pair {
     pub sender: usize,

@@ -67,7 +67,7 @@ impl<'a> Pool<'a> {
         ensures { pool_of self.new ≡ added_to q task (pool_of self.old) }
     {
         self.words[self.held] = task;
-        self.pairs[self.held] = q as u8;
+        self.pairs[self.held] = u8::try_from(q).unwrap();
         self.held += 1;
     }
 

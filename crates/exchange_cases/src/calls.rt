@@ -1,3 +1,4 @@
+// The lines of answer. Functions write them and no Display: their words are those of the script, not of the types.
 use crate::command::Call;
 use exchange::{Exchange, Pair, Put};
 use refusal::Refusal;
@@ -9,8 +10,8 @@ fn refused(memory: Global, refusal: Refusal) -> Result<String, AllocError> {
 }
 
 // The line of an exchange that is made.
-pub fn made(memory: Global, made: Result<(), Refusal>) -> Result<String, AllocError> {
-    match made {
+pub fn made(memory: Global, outcome: Result<(), Refusal>) -> Result<String, AllocError> {
+    match outcome {
         Ok(()) => String::from_str(memory, "made"),
         Err(refusal) => refused(memory, refusal),
     }
@@ -53,7 +54,7 @@ fn puts<X: Exchange>(
     times: usize,
 ) -> Result<String, AllocError> {
     let (mut joined, mut none, mut refused) = (0u64, 0u64, 0u64);
-    let mut task = (first % 65536) as u16;
+    let mut task = u16::try_from(first % 65536).unwrap();
     for _ in 0..times {
         match x.put(pair, task) {
             Ok(Put::Joined) => joined = joined.saturating_add(1),

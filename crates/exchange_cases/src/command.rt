@@ -3,6 +3,7 @@ use std::num::ParseIntError;
 use std::str::{FromStr, Split};
 
 // A line of a script: the exchange to make and go on with, or a call on the one that is in use.
+// Four words of the script make one, for two exchanges of each kind.
 #[derive(Clone, Copy, PartialEq, Eq, Debug)]
 pub enum Command {
     Ring { markers: usize, length: usize },

@@ -10,7 +10,7 @@ use exchange::{Pool, Ring};
 use std::alloc::{AllocError, Global};
 use std::io::Read;
 
-// The exchange that calls go to.
+// The exchange that calls go to. An enum, since `dyn Exchange` cannot be: the trait has a constant and a function with no self.
 #[derive(Clone, Copy)]
 enum Kind {
     Ring,

@@ -18,6 +18,7 @@ listing_with cells markers second last refs =
     ++ (codes "\nrefs=" ++ (refs
     ++ codes "\nroots=1\n")))))))))
 
+-- the heap that such a listing means
 abbrev pub heap_with : ℕ → ℕ → Heap
 heap_with second last =
     record {
@@ -31,6 +32,7 @@ heap_with second last =
       roots = 1 ∷ [];
     }
 
+-- the settings of n markers that share by the old rule
 abbrev pub settings_with : ℕ → Settings
 settings_with n = record { markers = n; share = Old }
 
@@ -38,6 +40,7 @@ settings_with n = record { markers = n; share = Old }
 abbrev pub cells_of_width_one : List ℕ → List ℕ
 cells_of_width_one cells = codes "cells=" ++ (cells ++ codes "\nwidth=1\nmarkers=1\nshare=old\nobjects=0\nroots=\n")
 
+-- what each example means, or why it is refused and on which line; `count` of them
 pub record Examples (count : ℕ) : Type 0 where
   pub number : count ≡ 14
   pub as_it_stands : judge (listing_with (codes "12") (codes "2") (codes "4") (codes "3") (codes "1,3")) ≡ Ok (heap_with 4 3, settings_with 2)
