@@ -9,7 +9,7 @@ use std::io::Read;
 use std::process::ExitCode;
 use std::{env, io};
 
-// The text that is read, and no more of it than tells that it is too long.
+// The text that is read, and no more of it than tells that it is too long. (`as`: no From leads from usize to u64.)
 fn read_text<R: Read + Drop>(memory: Global, input: R) -> io::Result<Vec<u8>> {
     let mut text = Vec::new(memory);
     input

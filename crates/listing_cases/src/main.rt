@@ -9,7 +9,7 @@ use sheet::{JudgeError, judge_listing};
 use std::alloc::{AllocError, Global};
 use std::io::Read;
 
-// What stands before the first such byte, and what stands behind it.
+// What stands before the first such byte, and what stands behind it. The reader's own is private to its crate.
 fn split_once(text: &[u8], byte: u8) -> Option<(&[u8], &[u8])>
     ensures { IfSome result (λ p. length p.1.now < length text.now) }
 {
@@ -24,7 +24,8 @@ fn digit(byte: u8) -> u32
     char::from(byte).to_digit(16).unwrap_or(0)
 }
 
-// The byte that a text begins with, an escape read, and the text behind it. An escape that is cut short stands for nothing.
+// The byte that a text begins with, or the one that its first escape stands for, and the text behind it. An escape that is cut short
+// stands for nothing. (`as`: two digits are below 256.)
 fn first_byte(text: &[u8]) -> Option<(u8, &[u8])>
     ensures { IfSome result (λ p. length p.1.now < length text.now) }
 {
@@ -46,6 +47,7 @@ fn add_plain(text: &[u8], out: &mut Vec<u8>) -> Result<(), AllocError> {
     Ok(())
 }
 
+// The number before a colon, however large. Not by `parse`: what is no digit counts as `digit` has it.
 fn number(text: &[u8]) -> u32 {
     text.iter().fold(0u32, |n, b| n.saturating_mul(10).saturating_add(digit(*b)))
 }
