@@ -1,4 +1,4 @@
-ghost use Rattle.std.specs.Prelude.{Some};
+ghost use Rattle.std.specs.Prelude.{◌≡◌, Some};
 
 use std::fmt;
 
@@ -9,15 +9,27 @@ pub enum Put {
     NoVacancy,
 }
 
+impl Put {
+    ghost use Rattle.exchange.specs.Calls.{word_of};
+
+    // The word for the answer. Beside `Display`, since it needs no writer and cannot fail.
+    pub fn word(self) -> &'static str
+        ensures { result.now ≡ word_of self }
+    {
+        match self {
+            Put::Joined => "joined",
+            Put::NoVacancy => "none",
+        }
+    }
+}
+
+// An answer prints as its word.
 impl fmt::Display for Put {
     ghost use Rattle.exchange.specs.Calls.{word_of};
 
     ghost output = { λ answer. Some (word_of answer) };
 
     fn fmt<W: fmt::Write>(&self, f: &mut fmt::Formatter<W>) -> fmt::Result {
-        f.write_str(match self {
-            Put::Joined => "joined",
-            Put::NoVacancy => "none",
-        })
+        f.write_str(self.word())
     }
 }

@@ -1,4 +1,4 @@
-ghost use Rattle.std.specs.Prelude.{Some};
+ghost use Rattle.std.specs.Prelude.{◌≡◌, Some};
 ghost use Rattle.listing.specs.Rules.{word_of};
 ghost use Rattle.listing.specs.Lines.{Named};
 
@@ -13,16 +13,25 @@ pub enum SharingRule {
     Both,
 }
 
-// The word that names the rule in a listing.
+impl SharingRule {
+    // The word that names the rule in a listing. Beside `Display`, since it needs no writer and cannot fail.
+    pub fn word(self) -> &'static str
+        ensures { result.now ≡ word_of self }
+    {
+        match self {
+            SharingRule::New => "new",
+            SharingRule::Old => "old",
+            SharingRule::Both => "both",
+        }
+    }
+}
+
+// A rule prints as its word.
 impl fmt::Display for SharingRule {
     ghost output = { λ rule. Some (word_of rule) };
 
     fn fmt<W: fmt::Write>(&self, f: &mut fmt::Formatter<W>) -> fmt::Result {
-        f.write_str(match self {
-            SharingRule::New => "new",
-            SharingRule::Old => "old",
-            SharingRule::Both => "both",
-        })
+        f.write_str(self.word())
     }
 }
 

@@ -40,12 +40,12 @@ impl From<Refusal> for u8 {
     }
 }
 
-// The word that stands for the refusal.
-impl fmt::Display for Refusal {
-    ghost output = { λ refusal. Some (word_of refusal) };
-
-    fn fmt<W: fmt::Write>(&self, f: &mut fmt::Formatter<W>) -> fmt::Result {
-        f.write_str(match self {
+impl Refusal {
+    // The word that stands for the refusal. Beside `Display`, since it needs no writer and cannot fail.
+    pub fn word(self) -> &'static str
+        ensures { result.now ≡ word_of self }
+    {
+        match self {
             Refusal::Form => "form",
             Refusal::Range => "range",
             Refusal::Overlap => "overlap",
@@ -58,7 +58,16 @@ impl fmt::Display for Refusal {
             Refusal::Full => "full",
             Refusal::Early => "early",
             Refusal::Section => "section",
-        })
+        }
+    }
+}
+
+// A refusal prints as its word.
+impl fmt::Display for Refusal {
+    ghost output = { λ refusal. Some (word_of refusal) };
+
+    fn fmt<W: fmt::Write>(&self, f: &mut fmt::Formatter<W>) -> fmt::Result {
+        f.write_str(self.word())
     }
 }
 
