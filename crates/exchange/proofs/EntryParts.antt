@@ -1,19 +1,15 @@
 -- The entries of one pair among the words, and what a write to one pair leaves of them. Assumes nothing.
-use Rattle.std.proofs.Common.{◌≡◌, ℕ, ◌+◌, ◌-◌, ◌*◌, ◌<◌, ◌≤◌, List, length, get_or, set, ⊎_elim, add-mul, arith, length-set}
+use Rattle.std.proofs.Common.{◌≡◌, ℕ, ◌+◌, ◌-◌, ◌*◌, ◌<◌, ◌≤◌, List, length, get_or, set, ⊎_elim, arith, length-set}
 use Rattle.std.specs.Prelude.{slice_range}
 use borrow.Rule.Slice.PartMut.{put_mid}
 use Rattle.std.proofs.lemmas.List.{places, same_lists, get_or-set_same}
 use Rattle.std.proofs.lemmas.Bool.{cases_eq, cases_lt}
-use Rattle.std.proofs.lemmas.Nat.{mul-le}
+use Rattle.std.proofs.lemmas.Nat.{row_fits}
 use Rattle.exchange.specs.Entries.{entries_of}
-
--- the entries of a pair end before those of a later one begin
-pub row_le : (p q len : ℕ) → p < q → p * len + len ≤ q * len
-row_le p q len l = omega (arith, mul-le (p + 1) len q len (omega arith) (omega arith), add-mul p 1 len)
 
 -- the entries of a pair are among the words
 pub row_within : (q n len : ℕ) (words : List ℕ) → q < n → n * len ≤ length words → q * len + len ≤ length words
-row_within q n len words l room = omega (arith, row_le q n len l)
+row_within q n len words l room = omega (arith, row_fits q len n len l (omega arith))
 
 -- the words, where es stands in place of the len words from word a on
 abbrev pub with_part : ℕ → ℕ → List ℕ → List ℕ → List ℕ
@@ -54,6 +50,6 @@ pub entries_other : (words es : List ℕ) (len q o : ℕ) → q * len + len ≤ 
     → entries_of len o (with_part len (q * len) words es) ≡ entries_of len o words
 entries_other words es len q o within long ne =
     ⊎_elim
-    (λ (low : o < q). part_before words es len (q * len) within long (o * len) (row_le o q len low))
-    (λ (high : q ≤ o). part_behind words es len (q * len) within long (o * len) (row_le q o len (omega (arith, ne))))
+    (λ (low : o < q). part_before words es len (q * len) within long (o * len) (row_fits o len q len low (omega arith)))
+    (λ (high : q ≤ o). part_behind words es len (q * len) within long (o * len) (row_fits q len o len (omega (arith, ne)) (omega arith)))
     (cases_lt o q)

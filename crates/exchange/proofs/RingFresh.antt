@@ -3,10 +3,10 @@ use Rattle.std.proofs.Common.{◌≡◌, ℕ, ◌+◌, ◌-◌, ◌*◌, ◌<◌
 use Rattle.std.specs.Borrow.{MutBor}
 use lib.ListN.{length-replicate}
 use Rattle.std.proofs.lemmas.List.{get_or-replicate, append-nil, places, same_lists}
+use Rattle.std.proofs.lemmas.Nat.{row_fits}
 use Rattle.exchange.specs.Pairs.{pairs_of}
 use Rattle.exchange.specs.Entries.{entries_of, filled, tasks, at_start, IsRing}
 use Rattle.exchange.specs.RingMeaning.{new_ring, pair_cursors, ring_tasks}
-use Rattle.exchange.proofs.EntryParts.{row_le}
 use Rattle.exchange.proofs.Turns.{filled_zeros}
 use Rattle.exchange.proofs.RingSteps.{Rings}
 
@@ -26,7 +26,7 @@ vacant_entries n q len rest le = same_lists _ _ (grind (arith, places)) (λ k d 
 
 module _ (m len : ℕ) (words : MutBor (List ℕ)) (holds : 1 ≤ len) (few : pairs_of m ≤ 240) where
   vacant : (q : ℕ) → q < pairs_of m → entries_of len q (new_ring m len words).words ≡ replicate len 0
-  vacant q l = vacant_entries (pairs_of m * len) q len (drop (pairs_of m * len) words.now) (row_le q (pairs_of m) len l)
+  vacant q l = vacant_entries (pairs_of m * len) q len (drop (pairs_of m * len) words.now) (row_fits q len (pairs_of m) len l (omega arith))
 
   cursors_fresh : (q : ℕ) → q < pairs_of m → pair_cursors (new_ring m len words) q ≡ at_start
   cursors_fresh q l = get_or-replicate 240 q at_start at_start (omega arith)

@@ -65,10 +65,13 @@ module _ {X : Type 0} (served : X → ℕ) (waiting : X → Queues) (vacant : X 
   LookSays i j x x' (Ok false) = Pair (served x) i j × (waiting x i j ≢ []) × Stays x x'
   LookSays i j x x' (Err e) = (e ≡ Unknown) × (Pair (served x) i j → ⊥) × (x' ≡ x)
 
--- no list is longer than `most`
-abbrev pub ListsAtMost : {X : Type 0} → (X → ℕ) → (X → Queues) → ℕ → Type 0
-ListsAtMost {X} served waiting most = (x : X) (i j : ℕ) → Pair (served x) i j → length (waiting x i j) ≤ most
-
--- while nothing waits anywhere, each pair has a vacancy
-abbrev pub VacantWhenIdle : {X : Type 0} → (X → ℕ) → (X → Queues) → (X → ℕ → ℕ → ℕ) → Type 0
-VacantWhenIdle {X} served waiting vacant = (x : X) → Idle served waiting x → (i j : ℕ) → Pair (served x) i j → 0 < vacant x i j
+  -- what each kind of exchange keeps, where `most` is the most that one pair holds
+  pub record Laws (most : ℕ) : Type 0 where
+    pub serves_one : (x : X) → 1 ≤ served x
+    pub serves_at_most_16 : (x : X) → served x ≤ 16
+    pub most_at_least_1 : 1 ≤ most
+    pub most_at_most_4096 : most ≤ 4096
+    -- no list is longer than the kind's constant
+    pub lists_at_most : (x : X) (i j : ℕ) → Pair (served x) i j → length (waiting x i j) ≤ most
+    -- while nothing waits anywhere, each pair has a vacancy
+    pub vacant_when_idle : (x : X) → Idle served waiting x → (i j : ℕ) → Pair (served x) i j → 0 < vacant x i j

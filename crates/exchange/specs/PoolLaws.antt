@@ -5,7 +5,7 @@ use Rattle.exchange.specs.declared.pool.Pool.{Pool}
 use Rattle.exchange.specs.Pairs.{Pair, pairs_of, pair_at}
 use Rattle.exchange.specs.Numbers.{pair_of}
 use Rattle.exchange.specs.Places.{task_at, tasks_from, waiting_below}
-use Rattle.exchange.specs.Calls.{ListsAtMost, VacantWhenIdle}
+use Rattle.exchange.specs.Calls.{Laws}
 use Rattle.exchange.specs.PoolMeaning.{pool_serves, pool_waiting, pool_vacant, pool_of, pool_tasks, all_waiting}
 
 -- one place holds at most one task
@@ -33,10 +33,12 @@ none_wait p idle = none_below (pool_tasks (pool_of p)) (pairs_of p.served) (λ q
     let of = pair_of p.served q l in
     subst (λ a. pool_tasks (pool_of p) a ≡ []) of.3 (idle of.0 of.1 of.2))
 
--- no pair has more tasks than the pool has places
-pub pool_lists_at_most : ListsAtMost pool_serves pool_waiting 1024
-pool_lists_at_most p i j r = omega (arith, tasks_short (pair_at p.served i j) p.pairs p.words.now 0 p.held, p.bounded)
-
--- a pool in which nothing waits has a vacancy
-pub pool_vacant_when_idle : VacantWhenIdle pool_serves pool_waiting pool_vacant
-pool_vacant_when_idle p idle i j r = omega (arith, none_wait p idle)
+pub pool_laws : Laws pool_serves pool_waiting pool_vacant 1024
+pool_laws = record {
+  serves_one = λ p. p.someone;
+  serves_at_most_16 = λ p. p.sixteen;
+  most_at_least_1 = omega arith;
+  most_at_most_4096 = omega arith;
+  lists_at_most = λ p i j _. omega (arith, tasks_short (pair_at p.served i j) p.pairs p.words.now 0 p.held, p.bounded);
+  vacant_when_idle = λ p idle i j _. omega (arith, none_wait p idle);
+}

@@ -1,4 +1,5 @@
 ghost use Rattle.std.specs.Prelude.{◌≡◌, ◌<◌, [], IsTrue, ◌↔◌};
+ghost use Rattle.exchange.specs.Entries.{following};
 
 use crate::answer::Put;
 
@@ -9,6 +10,15 @@ use crate::answer::Put;
 pub(crate) struct Cursors {
     head: usize,
     tail: usize,
+}
+
+// The entry after this one, round past the last of so many.
+fn entry_after(at: usize, length: usize) -> usize
+    requires { at < length }
+    ensures value { result ≡ following length at }
+    ensures within { result < length }
+{
+    (at + 1) % length
 }
 
 impl Cursors {
@@ -28,7 +38,7 @@ impl Cursors {
         if entries[self.tail] != 0 {
             return Put::NoVacancy;
         }
-        let next = (self.tail + 1) % entries.len();
+        let next = entry_after(self.tail, entries.len());
         entries[self.tail] = task;
         self.tail = next;
         Put::Joined
@@ -45,7 +55,7 @@ impl Cursors {
         if task == 0 {
             return None;
         }
-        let next = (self.head + 1) % entries.len();
+        let next = entry_after(self.head, entries.len());
         entries[self.head] = 0;
         self.head = next;
         Some(task)

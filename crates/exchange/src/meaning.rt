@@ -1,5 +1,5 @@
-ghost use Rattle.std.specs.Prelude.{◌≡◌, ℕ, ◌≤◌};
-ghost use Rattle.exchange.specs.Calls.{Queues, PutSays, TakeSays, LookSays, ListsAtMost, VacantWhenIdle};
+ghost use Rattle.std.specs.Prelude.{◌≡◌, ℕ};
+ghost use Rattle.exchange.specs.Calls.{Queues, PutSays, TakeSays, LookSays, Laws};
 
 use crate::answer::Put;
 use crate::pair::Pair;
@@ -43,16 +43,6 @@ pub trait Exchange {
     fn look(&mut self, pair: Pair) -> Result<bool, Refusal>
         ensures meaning { LookSays served waiting vacant pair.sender pair.receiver self.old self.new result };
 
-    // The laws of every kind.
-    ghost serves_one: { (x : Self) → 1 ≤ served x };
-
-    ghost serves_at_most_16: { (x : Self) → served x ≤ 16 };
-
-    ghost most_at_least_1: { 1 ≤ most };
-
-    ghost most_at_most_4096: { most ≤ 4096 };
-
-    ghost lists_at_most: { ListsAtMost served waiting most };
-
-    ghost vacant_when_idle: { VacantWhenIdle served waiting vacant };
+    // what every kind keeps
+    ghost laws: { Laws served waiting vacant most };
 }

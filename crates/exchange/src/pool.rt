@@ -99,8 +99,7 @@ impl<'a> Pool<'a> {
 
 impl<'a> Exchange for Pool<'a> {
     ghost use Rattle.exchange.specs.PoolMeaning.{pool_of, PoolPut, PoolTake, pool_serves, pool_waiting, pool_vacant};
-    ghost use Rattle.std.proofs.Common.{lit≤};
-    ghost use Rattle.exchange.specs.PoolLaws.{pool_lists_at_most, pool_vacant_when_idle};
+    ghost use Rattle.exchange.specs.PoolLaws.{pool_laws};
 
     ghost served = { pool_serves };
 
@@ -109,6 +108,8 @@ impl<'a> Exchange for Pool<'a> {
     ghost vacant = { pool_vacant };
 
     ghost most = { 1024 };
+
+    ghost laws = { pool_laws };
 
     const MOST: usize = PLACES;
 
@@ -156,16 +157,4 @@ impl<'a> Exchange for Pool<'a> {
         let q = pair.number(self.served)?;
         Ok(self.newest(q).is_none())
     }
-
-    ghost serves_one = { λ x. x.someone };
-
-    ghost serves_at_most_16 = { λ x. x.sixteen };
-
-    ghost most_at_least_1 = { lit≤ tt };
-
-    ghost most_at_most_4096 = { lit≤ tt };
-
-    ghost lists_at_most = { pool_lists_at_most };
-
-    ghost vacant_when_idle = { pool_vacant_when_idle };
 }

@@ -75,8 +75,7 @@ impl<'a> Ring<'a> {
 
 impl<'a> Exchange for Ring<'a> {
     ghost use Rattle.exchange.specs.RingMeaning.{ring_of, RingPut, RingTake, ring_serves, ring_waiting, ring_vacant};
-    ghost use Rattle.std.proofs.Common.{lit≤};
-    ghost use Rattle.exchange.specs.RingLaws.{ring_lists_at_most, ring_vacant_when_idle};
+    ghost use Rattle.exchange.specs.RingLaws.{ring_laws};
 
     ghost served = { ring_serves };
 
@@ -85,6 +84,8 @@ impl<'a> Exchange for Ring<'a> {
     ghost vacant = { ring_vacant };
 
     ghost most = { 64 };
+
+    ghost laws = { ring_laws };
 
     const MOST: usize = LONGEST;
 
@@ -125,16 +126,4 @@ impl<'a> Exchange for Ring<'a> {
     {
         self.has_none_waiting(pair)
     }
-
-    ghost serves_one = { λ x. x.someone };
-
-    ghost serves_at_most_16 = { λ x. x.sixteen };
-
-    ghost most_at_least_1 = { lit≤ tt };
-
-    ghost most_at_most_4096 = { lit≤ tt };
-
-    ghost lists_at_most = { ring_lists_at_most };
-
-    ghost vacant_when_idle = { ring_vacant_when_idle };
 }
