@@ -63,12 +63,13 @@ impl<'a, X: Copy> Deque<'a, X> {
     }
 
     // The ends to keep until the next use.
-    #[tactic(auto, using(crate::proofs::Windows::length_window))]
+    #[tactic(auto, using(crate::proofs::Fitting::fitted_same, crate::proofs::Windows::length_window))]
     pub fn ends(&self) -> Ends
         ensures value { result ≡ self.now.ends }
         ensures fitting { fitted (length self.now.places.now) result ≡ result }
         ensures count { length (held_in result self.now.places.now) ≡ result.held }
     {
+        // by a pattern: the must-fail edit needs a text that stands only here
         let Deque { ends, .. } = self;
         *ends
     }

@@ -14,11 +14,7 @@ fn pushes_and_pops_go_round_the_part(rt: HostRuntime) {
     assert_eq!(rt; stack.push(5), Err(Refusal::Full));
     assert_eq!(rt; stack.pop_top(), Some(4));
     assert_eq!(rt; stack.ends(), Ends { first: 1, held: 2 });
-    assert_eq!(rt; stretch[0], 9);
-    assert_eq!(rt; stretch[1], 4);
-    assert_eq!(rt; stretch[2], 2);
-    assert_eq!(rt; stretch[3], 3);
-    assert_eq!(rt; stretch[4], 9);
+    assert_eq!(rt; stretch, [9, 4, 2, 3, 9]);
 }
 
 #[test]
