@@ -1,15 +1,28 @@
 use exchange::Pair;
+use std::error::Error;
+use std::fmt;
 use std::num::ParseIntError;
 use std::str::{FromStr, Split};
 
+// Which of the two exchanges of a kind: the one that lies over enough words, or the one that lies over few.
+#[derive(Clone, Copy, PartialEq, Eq, Debug)]
+pub enum Words {
+    Enough,
+    Few,
+}
+
 // A line of a script: the exchange to make and go on with, or a call on the one that is in use.
-// Four words of the script make one, for two exchanges of each kind.
 #[derive(Clone, Copy, PartialEq, Eq, Debug)]
 pub enum Command {
-    Ring { markers: usize, length: usize },
-    Short { markers: usize, length: usize },
-    Pool { markers: usize },
-    Poor { markers: usize },
+    Ring {
+        over: Words,
+        markers: usize,
+        length: usize,
+    },
+    Pool {
+        over: Words,
+        markers: usize,
+    },
     Call(Call),
 }
 
@@ -41,6 +54,14 @@ pub enum Call {
 // A line that is no command.
 #[derive(Clone, Copy, PartialEq, Eq, Debug)]
 pub struct NoCommand;
+
+impl fmt::Display for NoCommand {
+    fn fmt<W: fmt::Write>(&self, f: &mut fmt::Formatter<W>) -> fmt::Result {
+        f.write_str("what?")
+    }
+}
+
+impl Error for NoCommand {}
 
 // The number that the next word is, if it is digits and fits.
 fn number<N: FromStr<Err = ParseIntError>>(words: &mut Split<'_, char>) -> Option<N> {
@@ -82,24 +103,29 @@ fn parse_call(word: &str, words: &mut Split<'_, char>) -> Option<Call> {
     })
 }
 
-fn parse_command(word: &str, words: &mut Split<'_, char>) -> Option<Command> {
-    Some(match word {
-        "ring" => Command::Ring {
-            markers: number(words)?,
-            length: number(words)?,
-        },
-        "short" => Command::Short {
-            markers: number(words)?,
-            length: number(words)?,
-        },
-        "pool" => Command::Pool {
-            markers: number(words)?,
-        },
-        "poor" => Command::Poor {
-            markers: number(words)?,
-        },
-        _ => Command::Call(parse_call(word, words)?),
+fn parse_ring(over: Words, words: &mut Split<'_, char>) -> Option<Command> {
+    Some(Command::Ring {
+        over,
+        markers: number(words)?,
+        length: number(words)?,
     })
+}
+
+fn parse_pool(over: Words, words: &mut Split<'_, char>) -> Option<Command> {
+    Some(Command::Pool {
+        over,
+        markers: number(words)?,
+    })
+}
+
+fn parse_command(word: &str, words: &mut Split<'_, char>) -> Option<Command> {
+    match word {
+        "ring" => parse_ring(Words::Enough, words),
+        "short" => parse_ring(Words::Few, words),
+        "pool" => parse_pool(Words::Enough, words),
+        "poor" => parse_pool(Words::Few, words),
+        _ => parse_call(word, words).map(Command::Call),
+    }
 }
 
 impl FromStr for Command {
@@ -109,7 +135,9 @@ impl FromStr for Command {
         let mut words = line.split(' ');
         let word = words.next().ok_or(NoCommand)?;
         let command = parse_command(word, &mut words).ok_or(NoCommand)?;
-        // nothing stands behind it
-        words.next().map_or(Ok(command), |_| Err(NoCommand))
+        match words.next() {
+            None => Ok(command),
+            Some(_) => Err(NoCommand),
+        }
     }
 }

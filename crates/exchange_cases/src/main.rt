@@ -1,62 +1,84 @@
 // Runs a script of calls on an exchange, a line of standard input a call, and prints a line of answer each: docs/EXCHANGE.md has the lines.
 #![tactic(auto)]
 
+mod answer;
 mod calls;
 mod command;
 
-use calls::{answer, made};
-use command::Command;
+use answer::{Answer, CommandError};
+use calls::answer;
+use command::{Command, Words};
 use exchange::{Pool, Ring};
-use std::alloc::{AllocError, Global};
+use std::alloc::Global;
 use std::io::Read;
+
+// The two exchanges of a kind.
+#[derive(Drop)]
+struct Two<X> {
+    enough: X,
+    few: X,
+}
+
+impl<X> Two<X> {
+    fn over(&mut self, words: Words) -> &mut X {
+        match words {
+            Words::Enough => &mut self.enough,
+            Words::Few => &mut self.few,
+        }
+    }
+}
 
 // The exchange that calls go to. An enum, since `dyn Exchange` cannot be: the trait has a constant and a function with no self.
 #[derive(Clone, Copy)]
-enum Kind {
-    Ring,
-    Short,
-    Pool,
-    Poor,
+enum Used {
+    Ring(Words),
+    Pool(Words),
 }
 
 // The exchanges of a script, and which of them is in use.
 #[derive(Drop)]
 struct Exchanges<'a> {
-    ring: Ring<'a>,
-    short: Ring<'a>,
-    pool: Pool<'a>,
-    poor: Pool<'a>,
-    used: Kind,
+    rings: Two<Ring<'a>>,
+    pools: Two<Pool<'a>>,
+    used: Used,
 }
 
 impl Exchanges<'_> {
-    // Carries out a command, and gives the line of answer.
-    fn run(&mut self, memory: Global, command: Command) -> Result<String, AllocError> {
+    fn run(&mut self, memory: Global, command: Command) -> Result<Answer, CommandError> {
         match command {
-            Command::Ring { markers, length } => {
-                self.used = Kind::Ring;
-                made(memory, self.ring.set_up(markers, length))
+            Command::Ring {
+                over,
+                markers,
+                length,
+            } => {
+                self.used = Used::Ring(over);
+                self.rings.over(over).set_up(markers, length)?;
+                Ok(Answer::Made)
             }
-            Command::Short { markers, length } => {
-                self.used = Kind::Short;
-                made(memory, self.short.set_up(markers, length))
-            }
-            Command::Pool { markers } => {
-                self.used = Kind::Pool;
-                made(memory, self.pool.set_up(markers))
-            }
-            Command::Poor { markers } => {
-                self.used = Kind::Poor;
-                made(memory, self.poor.set_up(markers))
+            Command::Pool { over, markers } => {
+                self.used = Used::Pool(over);
+                self.pools.over(over).set_up(markers)?;
+                Ok(Answer::Made)
             }
             Command::Call(call) => match self.used {
-                Kind::Ring => answer(memory, &mut self.ring, call),
-                Kind::Short => answer(memory, &mut self.short, call),
-                Kind::Pool => answer(memory, &mut self.pool, call),
-                Kind::Poor => answer(memory, &mut self.poor, call),
+                Used::Ring(words) => answer(memory, self.rings.over(words), call),
+                Used::Pool(words) => answer(memory, self.pools.over(words), call),
             },
         }
     }
+}
+
+// Carries out a line of the script, and prints what it is answered.
+fn run_line(rt: &HostRuntime, exchanges: &mut Exchanges, line: &str) -> anyhow::Result<()> {
+    match line.parse() {
+        Ok(command) => match exchanges.run(rt.alloc(), command) {
+            Ok(answer) => rt.println(answer)?,
+            Err(error @ CommandError::Refused(_)) => rt.println(error)?,
+            Err(error) => return Err(error.into()),
+        },
+        Err(error) => rt.println(error)?,
+    }
+    Ok(())
 }
 
 fn main(rt: HostRuntime) -> anyhow::Result<()> {
@@ -65,19 +87,19 @@ fn main(rt: HostRuntime) -> anyhow::Result<()> {
     let (mut wide, mut narrow) = ([9u16; 15360], [9u16; 12]);
     let (mut enough, mut scarce) = ([9u16; 1024], [9u16; 1023]);
     let mut exchanges = Exchanges {
-        ring: Ring::over(&mut wide),
-        short: Ring::over(&mut narrow),
-        pool: Pool::over(&mut enough),
-        poor: Pool::over(&mut scarce),
-        used: Kind::Ring,
+        rings: Two {
+            enough: Ring::over(&mut wide),
+            few: Ring::over(&mut narrow),
+        },
+        pools: Two {
+            enough: Pool::over(&mut enough),
+            few: Pool::over(&mut scarce),
+        },
+        used: Used::Ring(Words::Enough),
     };
     for line in script.as_str().lines() {
-        if line.is_empty() || line.starts_with('#') {
-            continue;
-        }
-        match line.parse() {
-            Ok(command) => rt.println(exchanges.run(rt.alloc(), command)?.as_str())?,
-            Err(_) => rt.println("what?")?,
+        if !line.is_empty() && !line.starts_with('#') {
+            run_line(&rt, &mut exchanges, line)?;
         }
     }
     Ok(())
