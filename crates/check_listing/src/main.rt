@@ -9,12 +9,11 @@ use std::io::Read;
 use std::process::ExitCode;
 use std::{env, io};
 
-// The text that is read, and no more of it than tells that it is too long. (`as`: no From leads from usize to u64.)
+// The text that is read, and no more of it than tells that it is too long.
 fn read_text<R: Read + Drop>(memory: Global, input: R) -> io::Result<Vec<u8>> {
+    let longest = u64::try_from(longest_listing()).unwrap();
     let mut text = Vec::new(memory);
-    input
-        .take(longest_listing() as u64 + 1)
-        .read_to_end(&mut text)?;
+    input.take(longest + 1).read_to_end(&mut text)?;
     Ok(text)
 }
 
@@ -37,11 +36,7 @@ fn judge(rt: &HostRuntime, text: &[u8]) -> anyhow::Result<ExitCode> {
 fn judge_file(rt: &HostRuntime, path: &str) -> anyhow::Result<ExitCode> {
     match File::open(rt, path) {
         Ok(file) => judge(rt, &read_text(rt.alloc(), file)?),
-        // printed here: an `anyhow::Error` would cut a long path
-        Err(error) => {
-            eprintln!(rt; "check_listing: cannot open {path}: {error}")?;
-            Ok(ExitCode::FAILURE)
-        }
+        Err(error) => bail!("cannot open {path}: {error}"),
     }
 }
 

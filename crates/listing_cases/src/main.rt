@@ -17,7 +17,7 @@ fn split_once(text: &[u8], byte: u8) -> Option<(&[u8], &[u8])>
     Some((&text[..at], &text[at + 1..]))
 }
 
-// The value of a hexadecimal digit; what is none counts as 0.
+// The value of a hexadecimal digit. What is none counts as 0 and is no error, so that every script has an answer.
 fn digit(byte: u8) -> u32
     ensures { result < 16 }
 {
@@ -25,12 +25,15 @@ fn digit(byte: u8) -> u32
 }
 
 // The byte that a text begins with, or the one that its first escape stands for, and the text behind it. An escape that is cut short
-// stands for nothing. (`as`: two digits are below 256.)
+// stands for nothing.
 fn first_byte(text: &[u8]) -> Option<(u8, &[u8])>
     ensures { IfSome result (λ p. length p.1.now < length text.now) }
 {
     match text {
-        [b'%', high, low, rest @ ..] => Some(((16 * digit(*high) + digit(*low)) as u8, rest)),
+        [b'%', high, low, rest @ ..] => {
+            let byte = u8::try_from(16 * digit(*high) + digit(*low)).unwrap();
+            Some((byte, rest))
+        }
         [] | [b'%', ..] => None,
         [b'/', rest @ ..] => Some((b'\n', rest)),
         [byte, rest @ ..] => Some((*byte, rest)),
