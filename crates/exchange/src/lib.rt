@@ -3,6 +3,7 @@
 
 mod answer;
 mod cursors;
+mod markers;
 mod meaning;
 mod pair;
 mod pool;
@@ -13,9 +14,3 @@ pub use meaning::Exchange;
 pub use pair::Pair;
 pub use pool::Pool;
 pub use ring::Ring;
-
-// The most markers that an exchange serves.
-const MOST_MARKERS: usize = 16;
-
-// The pairs of so many.
-const PAIRS: usize = MOST_MARKERS * (MOST_MARKERS - 1);

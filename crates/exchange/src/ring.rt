@@ -5,9 +5,9 @@ ghost use Rattle.exchange.specs.Calls.{PutSays, TakeSays, LookSays};
 
 use crate::answer::Put;
 use crate::cursors::Cursors;
+use crate::markers::Markers;
 use crate::meaning::Exchange;
 use crate::pair::Pair;
-use crate::{MOST_MARKERS, PAIRS};
 use refusal::Refusal;
 
 // The longest ring of a pair.
@@ -18,15 +18,13 @@ const LONGEST: usize = 64;
 #[derive(Drop)]
 pub struct Ring<'a> {
     words: &'a mut [u16],
-    served: usize,
+    served: Markers,
     length: usize,
-    cursors: [Cursors; PAIRS],
-    ghost someone: { 1 ≤ served },
-    ghost sixteen: { served ≤ 16 },
+    cursors: [Cursors; Markers::PAIRS],
     ghost holds: { 1 ≤ length },
     ghost bounded: { length ≤ 64 },
-    ghost room: { pairs_of served * length ≤ count words.now },
-    ghost rings: { (q : ℕ) → q < pairs_of served → IsRing (cursors_of q cursors) (entries_of length q words.now) },
+    ghost room: { pairs_of served.count * length ≤ count words.now },
+    ghost rings: { (q : ℕ) → q < pairs_of served.count → IsRing (cursors_of q cursors) (entries_of length q words.now) },
 }
 
 impl<'a> Ring<'a> {
@@ -38,9 +36,9 @@ impl<'a> Ring<'a> {
     {
         Ring {
             words,
-            served: 1,
+            served: Markers::one(),
             length: 1,
-            cursors: [Cursors::START; PAIRS],
+            cursors: [Cursors::START; Markers::PAIRS],
         }
     }
 
@@ -49,17 +47,18 @@ impl<'a> Ring<'a> {
         ensures answer { result ≡ ring_answer markers length (count self.old.words.now) }
         ensures made { RingMade markers length self.old self.new result }
     {
-        if !(1..=MOST_MARKERS).contains(&markers) || !(1..=LONGEST).contains(&length) {
+        let served = Markers::try_from(markers)?;
+        if !(1..=LONGEST).contains(&length) {
             return Err(Refusal::Range);
         }
-        let n = markers * (markers - 1) * length;
+        let n = served.count * (served.count - 1) * length;
         if n > self.words.len() {
             return Err(Refusal::Memory);
         }
         self.words[..n].fill(0);
-        self.served = markers;
+        self.served = served;
         self.length = length;
-        self.cursors = [Cursors::START; PAIRS];
+        self.cursors = [Cursors::START; Markers::PAIRS];
         Ok(())
     }
 
@@ -96,12 +95,12 @@ impl<'a> Exchange for Ring<'a> {
     }
 
     fn markers(&self) -> usize {
-        self.served
+        self.served.count
     }
 
     fn put(&mut self, pair: Pair, task: u16) -> Result<Put, Refusal>
         ensures meaning { PutSays ring_serves ring_waiting ring_vacant pair.sender pair.receiver task self.old self.new result }
-        ensures memory { RingPut (pair_at self.old.served pair.sender pair.receiver) task (ring_of self.old) (ring_of self.new) result }
+        ensures memory { RingPut (pair_at self.old.served.count pair.sender pair.receiver) task (ring_of self.old) (ring_of self.new) result }
     {
         let q = pair.number(self.served)?;
         if task == 0 {
@@ -113,7 +112,7 @@ impl<'a> Exchange for Ring<'a> {
 
     fn take(&mut self, pair: Pair) -> Result<Option<u16>, Refusal>
         ensures meaning { TakeSays ring_serves ring_waiting ring_vacant pair.sender pair.receiver self.old self.new result }
-        ensures memory { RingTake (pair_at self.old.served pair.sender pair.receiver) (ring_of self.old) (ring_of self.new) result }
+        ensures memory { RingTake (pair_at self.old.served.count pair.sender pair.receiver) (ring_of self.old) (ring_of self.new) result }
     {
         let q = pair.number(self.served)?;
         let at = q * self.length;
