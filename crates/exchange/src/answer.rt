@@ -2,7 +2,7 @@ ghost use Rattle.std.specs.Prelude.{◌≡◌, Some};
 
 use std::fmt;
 
-// What a put answers: the task has joined its queue, or there was no vacancy. These are not yes and no, so an enum says which.
+// What a put answers: the task has joined its queue, or there was no vacancy. An enum and no `bool`: promises say by case what each answer tells.
 #[derive(Clone, Copy, PartialEq, Eq, Debug)]
 pub enum Put {
     Joined,

@@ -1,4 +1,4 @@
-ghost use Rattle.std.specs.Prelude.{◌≡◌, ◌≤◌, false, ◌&&◌, nat_le, MatchResult};
+ghost use Rattle.std.specs.Prelude.{◌≡◌, ◌≤◌, MatchResult};
 ghost use Rattle.refusal.specs.declared.Refusal.TheVariants.{Range};
 
 use refusal::Refusal;
@@ -27,7 +27,7 @@ impl Markers {
 impl TryFrom<usize> for Markers {
     type Error = Refusal;
 
-    ghost try_from_gives = { λ n made. MatchResult made (λ m. (m.count ≡ n) × (1 ≤ n) × (n ≤ 16)) (λ e. (e ≡ Range) × (nat_le 1 n && nat_le n 16 ≡ false)) };
+    ghost try_from_gives = { λ n made. MatchResult made (λ m. (m.count ≡ n) × (1 ≤ n) × (n ≤ 16)) (λ e. (e ≡ Range) × (1 ≤ n → n ≤ 16 → ⊥)) };
 
     fn try_from(count: usize) -> Result<Markers, Refusal> {
         if (1..=Markers::MOST).contains(&count) {

@@ -62,7 +62,7 @@ impl<'a> Ring<'a> {
         Ok(())
     }
 
-    // What `look` answers; by `&self`, since behind a `&mut` a proof loses what lent words hold.
+    // What `look` answers; by `&self`, since behind a `&mut` a proof loses what lent words hold, also where a slice of them is taken first.
     fn has_none_waiting(&self, pair: Pair) -> Result<bool, Refusal>
         ensures { LookSays ring_serves ring_waiting ring_vacant pair.sender pair.receiver self.now self.now result }
     {
@@ -103,9 +103,11 @@ impl<'a> Exchange for Ring<'a> {
         ensures memory { RingPut (pair_at self.old.served.count pair.sender pair.receiver) task (ring_of self.old) (ring_of self.new) result }
     {
         let q = pair.number(self.served)?;
+        // this test stands in `Pool` too: a function for it would be no shorter
         if task == 0 {
             return Err(Refusal::Unknown);
         }
+        // no function gives this range: the proofs of put, take and look would each have to rewrite by it
         let at = q * self.length;
         Ok(self.cursors[q].put(&mut self.words[at..at + self.length], task))
     }
