@@ -1,10 +1,11 @@
-ghost use Rattle.std.specs.Prelude.{◌≡◌, ℕ, ◌+◌, ◌*◌, ◌<◌, ◌≤◌, [], length, Ok, MatchResult};
+ghost use Rattle.std.specs.Prelude.{◌≡◌, ℕ, ◌+◌, ◌*◌, ◌<◌, ◌≤◌, true, [], length, Ok, MatchResult};
 ghost use Rattle.heap.specs.Heap.{Heap};
 ghost use Rattle.heap.specs.Handed.{tables_of};
 ghost use Rattle.listing.specs.Rules.{Objects};
 ghost use Rattle.listing.specs.Judge.{judge_text};
 ghost use Rattle.listing.specs.declared.settings.Settings.{Settings};
-ghost use Rattle.listing.specs.Pieces.{numbers, number_in};
+ghost use Rattle.listing.specs.Numeral.{numeral, value_of};
+ghost use Rattle.listing.specs.Pieces.{numbers};
 ghost use Rattle.listing.specs.Filling.{with_object, with_roots, with_heap, BodyFits, ObjectsFilled};
 
 use crate::header::Body;
@@ -15,12 +16,12 @@ use crate::value::NumberList;
 use heap::{CheckedHeap, ObjectEntry};
 use refusal::Fault;
 
-// The number that a piece of a list is. The listing is known to be right: what is no number counts as 0, and one above 65,535 as that.
+// The number that a piece of a list is. The list is known: each piece is a number, and none is above 65,535.
 fn number_in(piece: &[u8]) -> u16
-    ensures { result ≡ number_in piece.now }
+    requires { (numeral piece.now ≡ true) × (value_of piece.now ≤ 65535) }
+    ensures { result ≡ value_of piece.now }
 {
-    let n = number(piece).unwrap_or(0);
-    u16::try_from(n).unwrap_or(u16::MAX)
+    u16::try_from(number(piece).unwrap()).unwrap()
 }
 
 // Writes the numbers of a list into places, one each.
@@ -28,14 +29,14 @@ fn fill_numbers(list: NumberList<'_>, places: &mut [u16])
     requires { list.count ≡ length places.old }
     ensures { places.new ≡ numbers list.entry.text.now }
 {
-    // by index: of what `iter_mut` lends, a proof knows only how many there are
-    for (i, piece) in (0..places.len()).zip(list.text.split(|byte| *byte == b',')) {
-        places[i] = number_in(piece);
+    let mut pieces = list.text.split(|byte| *byte == b',');
+    for place in places.iter_mut() {
+        *place = number_in(pieces.next().unwrap());
     }
 }
 
 // Writes an object, its entry at place `i` and its references from place `first` on. The heap has no objects yet, so its law holds at every
-// write. No From leads from usize to u32: the promise says that `first` and the count fit.
+// write.
 fn fill_object(object: ObjectLines<'_>, i: usize, first: usize, heap: &mut CheckedHeap)
     requires room { (i < length heap.old.object_table.now) × (first + object.refs.count ≤ length heap.old.reference_table.now) × (first + object.refs.count ≤ 262144) }
     requires empty { (heap.old.objects ≡ 0) × (heap.old.references ≡ 0) }
@@ -46,8 +47,8 @@ fn fill_object(object: ObjectLines<'_>, i: usize, first: usize, heap: &mut Check
     heap.object_table[i] = ObjectEntry {
         at: object.at,
         len: object.len,
-        first: first as u32,
-        count: object.refs.count as u32,
+        first: u32::try_from(first).unwrap(),
+        count: u32::try_from(object.refs.count).unwrap(),
     };
 }
 
