@@ -1,4 +1,4 @@
-ghost use Rattle.std.specs.Prelude.{◌≡◌, ℕ, ◌+◌, ◌*◌, ◌<◌, ◌≤◌, true, [], length, Ok, MatchResult};
+ghost use Rattle.std.specs.Prelude.{◌≡◌, ℕ, ◌+◌, ◌*◌, ◌<◌, ◌≤◌, ◌^◌, true, [], length, Ok, MatchResult};
 ghost use Rattle.heap.specs.Heap.{Heap};
 ghost use Rattle.heap.specs.Handed.{tables_of};
 ghost use Rattle.listing.specs.Rules.{Objects};
@@ -6,7 +6,7 @@ ghost use Rattle.listing.specs.Judge.{judge_text};
 ghost use Rattle.listing.specs.declared.settings.Settings.{Settings};
 ghost use Rattle.listing.specs.Numeral.{numeral, value_of};
 ghost use Rattle.listing.specs.Pieces.{numbers};
-ghost use Rattle.listing.specs.Filling.{with_object, with_roots, with_heap, BodyFits, ObjectsFilled};
+ghost use Rattle.listing.specs.Filling.{with_roots, with_heap, BodyFits, ObjectsFilled};
 
 use crate::header::Body;
 use crate::lines::Lines;
@@ -35,35 +35,36 @@ fn fill_numbers(list: NumberList<'_>, places: &mut [u16])
     }
 }
 
-// Writes an object, its entry at place `i` and its references from place `first` on. The heap has no objects yet, so its law holds at every
-// write.
-fn fill_object(object: ObjectLines<'_>, i: usize, first: usize, heap: &mut CheckedHeap)
-    requires room { (i < length heap.old.object_table.now) × (first + object.refs.count ≤ length heap.old.reference_table.now) × (first + object.refs.count ≤ 262144) }
-    requires empty { (heap.old.objects ≡ 0) × (heap.old.references ≡ 0) }
-    ensures { tables_of heap.new ≡ with_object i (record { at = object.entry.at; len = object.entry.len; first = first; count = object.entry.refs.count }) (numbers object.entry.refs.text.now) (tables_of heap.old) }
+// The entry of an object whose references begin at place `first`.
+fn entry_of(object: ObjectLines<'_>, first: usize) -> ObjectEntry
+    requires { first + object.refs.count < 2 ^ 32 }
+    ensures { result ≡ record { at = object.entry.at; len = object.entry.len; first = first; count = object.entry.refs.count } }
 {
-    let behind = first + object.refs.count;
-    fill_numbers(object.refs, &mut heap.reference_table[first..behind]);
-    heap.object_table[i] = ObjectEntry {
+    ObjectEntry {
         at: object.at,
         len: object.len,
         first: u32::try_from(first).unwrap(),
         count: u32::try_from(object.refs.count).unwrap(),
-    };
+    }
 }
 
-// Reads the lines of all objects once more, and fills the tables. The heap is empty, and the listing is known to be right. Not one
-// function with the first pass: what a closure changes at each object, a proof loses.
+// Reads the lines of all objects once more, and fills the tables. The heap is empty, so its law holds whatever is written, and the
+// listing is known to be right.
 fn fill_objects<'t>(body: Body<'t>, heap: &mut CheckedHeap) -> Result<Lines<'t>, Fault>
     requires fits { BodyFits body.header body.lines.text.now (tables_of heap.old) }
     requires empty { (heap.old.objects ≡ 0) × (heap.old.references ≡ 0) }
     ensures { MatchResult result (λ rest. ObjectsFilled body.entry.header body.entry.lines.text.now (tables_of heap.old) (tables_of heap.new) rest.text.now × (rest.number ≡ 6 + 3 * body.entry.header.objects)) (λ _. ⊥) }
 {
     let mut objects = ObjectReader::new(body);
-    for i in 0..body.header.objects {
+    // bound before the loop: an invariant cannot name a table that is lent out of the heap inside it
+    let entries = &mut heap.object_table[..usize::from(body.header.objects)];
+    let references = &mut *heap.reference_table;
+    for entry in entries.iter_mut() {
         let first = objects.references;
         let object = objects.next_object()?;
-        fill_object(object, usize::from(i), first, heap);
+        let behind = objects.references;
+        fill_numbers(object.refs, &mut references[first..behind]);
+        *entry = entry_of(object, first);
     }
     Ok(objects.lines)
 }
