@@ -26,7 +26,7 @@ impl SharingRule {
     }
 }
 
-// A rule prints as its word.
+// A rule prints as its word. An impl for each type with a word: the orphan rule refuses one for all.
 impl fmt::Display for SharingRule {
     ghost output = { λ rule. Some (word_of rule) };
 

@@ -39,8 +39,9 @@ impl<'t> Value<'t> {
     fn on_line<T>(self, read: Result<T, Refusal>) -> Result<T, Fault>
         ensures { result ≡ on_line self.entry.line read }
     {
-        let line = self.line;
-        read.map_err(|refusal| Fault { refusal, line })
+        // bound first: passed at once, a proof learns nothing of it
+        let fault = |refusal| self.fault(refusal);
+        read.map_err(fault)
     }
 
     // The value as a number between two bounds.
@@ -50,7 +51,7 @@ impl<'t> Value<'t> {
     {
         let n = self.on_line(number(self.text))?;
         match u16::try_from(n) {
-            Ok(n) if low <= n && n <= high => Ok(n),
+            Ok(n) if (low..=high).contains(&n) => Ok(n),
             _ => Err(self.fault(Refusal::Range)),
         }
     }
