@@ -51,6 +51,9 @@ impl TryFrom<&[u8]> for SharingRule {
     }
 }
 
+// The most markers that share a heap.
+pub(crate) const MOST_MARKERS: u16 = 16;
+
 // What a listing says besides the heap: how many markers there are, 1 to 16, and how they share.
 #[derive(Clone, Copy, PartialEq, Eq, Debug)]
 pub struct Settings {

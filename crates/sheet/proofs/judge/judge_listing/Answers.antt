@@ -10,7 +10,7 @@ returns-in_err-settings c =
     let r = c.from_residual-in_err-settings.result in
     let f = c.in_err-settings.field-0.0 in
     let j : judged_up_to text ≡ Err f =
-    refused text f _ c.deref_mut.result c.deref_mut-2.result c.deref_mut-3.result (omega arith) c.empty-heap.ensures (c.deref_mut.ensures.len ∙ c.in_ok-objects.ensures.len) (c.deref_mut-2.ensures.len ∙ c.in_ok-references.ensures.len)
+    refused text f _ c.deref_mut.result c.deref_mut-2.result c.deref_mut-3.result (omega arith) c.empty-heap.ensures (c.deref_mut.ensures.len ∙ c.in_ok-objects.ensures.len ∙ c.from.ensures) (c.deref_mut-2.ensures.len ∙ c.in_ok-references.ensures.len)
     (c.deref_mut-3.ensures.len ∙ c.in_ok-roots.ensures.len) (c.in_err-settings.ensures.refused f refl) in
     let e : r ≡ answer_to (judged_up_to text) = passed_on r f c.from_residual-in_err-settings.ensures.1 ∙ sym (ap answer_to j) in
     record { answer = λ _. e; shown = λ _. shown_printed r _ e }
