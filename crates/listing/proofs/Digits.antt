@@ -1,9 +1,9 @@
 -- Reading the digits of a number, byte by byte.
-use Rattle.std.proofs.Common.{◌≡◌, ℕ, ◌+◌, ◌-◌, ◌*◌, ◌<◌, ◌≤◌, min, cond, List, [], ◌∷◌, length, get_or, drop, Ok, Err, Result, ap, arith}
+use Rattle.std.proofs.Common.{◌≡◌, ℕ, ◌+◌, ◌-◌, ◌*◌, ◌<◌, ◌≤◌, min, cond, List, [], ◌∷◌, length, get_or, drop, Ok, Err, Result, arith}
 use Rattle.refusal.specs.declared.Refusal.{Refusal}
 use Rattle.refusal.specs.declared.Refusal.TheVariants.{Form}
 use Rattle.std.specs.Str.{all_ascii_digits}
-use Rattle.std.proofs.lemmas.List.{drop_more, drop_all}
+use Rattle.std.proofs.lemmas.List.{drop_more}
 use Rattle.std.proofs.lemmas.Bool.Decides.{nat_tests}
 use Rattle.listing.specs.Numeral.{value_after}
 
@@ -21,12 +21,3 @@ pub read_more : (xs : List ℕ) (i v m : ℕ) → i < length xs → 48 ≤ get_o
 read_more xs i v m l a b =
     let e = saturated (drop (i + 1) xs) (min (min (v * 10) m + (get_or xs i 0 - 48)) m) (10 * v + (get_or xs i 0 - 48)) m (omega arith) in
     rw (drop_more xs i 0 l, e) (grind (arith, nat_tests))
-
-pub read_below : (xs : List ℕ) (i v m : ℕ) → i < length xs → get_or xs i 0 < 48 → Err Form ≡ read_up_to m v (drop i xs)
-read_below xs i v m l a = rw (drop_more xs i 0 l) (grind (arith, nat_tests))
-
-pub read_above : (xs : List ℕ) (i v m : ℕ) → i < length xs → 57 < get_or xs i 0 → Err Form ≡ read_up_to m v (drop i xs)
-read_above xs i v m l a = rw (drop_more xs i 0 l) (grind (arith, nat_tests))
-
-pub read_all : (xs : List ℕ) (i v m : ℕ) → length xs ≤ i → v ≤ m → Ok v ≡ read_up_to m v (drop i xs)
-read_all xs i v m l f = let e : v ≡ min v m = omega arith in rw (drop_all i xs l) (ap Ok e)

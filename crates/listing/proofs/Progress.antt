@@ -91,7 +91,7 @@ stop_so_far h text i r f s l e =
     next_object h text i r s l
     ∙ ap (λ y. then y (λ p. judge_text (Objects h (s.done ++ object_read p.0 ∷ []) (h.objects - (i + 1))) (r.lines.number + 3) p.1)) e
 
-pub all_so_far : (h : Header) (text : List ℕ) (i : ℕ) (r : ObjectReader) → ObjectsSoFar h text i r → i ≡ h.objects
+abbrev pub all_so_far : (h : Header) (text : List ℕ) (i : ℕ) (r : ObjectReader) → ObjectsSoFar h text i r → i ≡ h.objects
     → ObjectsRead h text r.references r.lines.text.now × (r.lines.number ≡ 6 + 3 * h.objects)
 all_so_far h text i r s e =
     let left : h.objects - i ≡ 0 = omega arith in

@@ -1,27 +1,11 @@
 -- What filling the tables of a heap changes. Assumes nothing.
-use Rattle.std.specs.Prelude.{◌≡◌, ℕ, ◌+◌, ◌*◌, ◌≤◌, List, [], ◌++◌, length, take, drop, Ok, slice_set}
-use Rattle.heap.specs.declared.entry.ObjectEntry.{ObjectEntry}
+use Rattle.std.specs.Prelude.{◌≡◌, ℕ, ◌+◌, ◌*◌, ◌≤◌, List, [], ◌++◌, length, drop, Ok}
 use Rattle.heap.specs.Heap.{Heap, Object, references_in}
 use Rattle.heap.specs.Tables.{Tables, entries_from, references_of, filled}
 use Rattle.listing.specs.declared.settings.Header.{Header}
 use Rattle.listing.specs.declared.settings.Settings.{Settings}
 use Rattle.listing.specs.Rules.{Objects}
 use Rattle.listing.specs.Judge.{judge_text}
-
--- the tables with one more object: its entry at place i, its references where the entry says
-abbrev pub with_object : ℕ → ObjectEntry → List ℕ → Tables → Tables
-with_object i entry refs t =
-    record {
-      cells = t.cells;
-      width = t.width;
-      objects = t.objects;
-      references = t.references;
-      roots = t.roots;
-      object_table = slice_set t.object_table i entry;
-      reference_table = take entry.first t.reference_table ++ refs ++ drop (entry.first + entry.count) t.reference_table;
-      root_table = t.root_table;
-      lenders = t.lenders;
-    }
 
 -- the tables with so many roots
 abbrev pub with_roots : ℕ → List ℕ → Tables → Tables

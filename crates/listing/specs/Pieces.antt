@@ -1,5 +1,5 @@
 -- What separators cut a text into, and lists of numbers. Assumes nothing.
-use Rattle.std.specs.Prelude.{ℕ, min, max, Bool, true, cond, ◌&&◌, List, [], ◌∷◌, map, Some, None, Option, ◌==◌}
+use Rattle.std.specs.Prelude.{ℕ, max, Bool, true, cond, ◌&&◌, List, [], ◌∷◌, map, Some, None, Option, ◌==◌}
 use Rattle.listing.specs.Numeral.{numeral, value_of}
 
 -- what stands before the first separator, and what stands behind it
@@ -38,10 +38,6 @@ numerals text = all_numerals (listed text)
 
 abbrev pub numbers : List ℕ → List ℕ
 numbers text = map value_of (listed text)
-
--- the number that a piece is; what is no number counts as 0, and one above 65,535 as that
-abbrev pub number_in : List ℕ → ℕ
-number_in piece = min (cond (numeral piece) (value_of piece) 0) 65535
 
 abbrev pub largest : List ℕ → ℕ
 largest [] = 0

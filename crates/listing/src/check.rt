@@ -8,7 +8,8 @@ use crate::objects::ObjectReader;
 use crate::settings::Totals;
 use refusal::{Fault, Refusal};
 
-// Looks through the lines of all objects: the reader behind the last of them.
+// Looks through the lines of all objects: the reader behind the last of them. No twin of `fill_objects`, which goes the same way over the
+// lines and fills two tables from each object: here an object only has to be right.
 fn check_objects(body: Body<'_>) -> Result<ObjectReader<'_>, Fault>
     ensures { MatchResult result (λ r. ObjectsRead body.entry.header body.entry.lines.text.now r.references r.lines.text.now × (r.lines.number ≡ 6 + 3 * body.entry.header.objects)) (λ f. judge_text (Objects body.entry.header [] body.entry.header.objects) 6 body.entry.lines.text.now ≡ Err f) }
 {

@@ -1,11 +1,12 @@
-ghost use Rattle.std.specs.Prelude.{◌≡◌, ℕ, ◌+◌, ◌*◌, ◌<◌, ◌≤◌, [], length, Ok, MatchResult};
+ghost use Rattle.std.specs.Prelude.{◌≡◌, ℕ, ◌+◌, ◌*◌, ◌<◌, ◌≤◌, ◌^◌, true, [], length, Ok, MatchResult};
 ghost use Rattle.heap.specs.Heap.{Heap};
 ghost use Rattle.heap.specs.Handed.{tables_of};
 ghost use Rattle.listing.specs.Rules.{Objects};
 ghost use Rattle.listing.specs.Judge.{judge_text};
 ghost use Rattle.listing.specs.declared.settings.Settings.{Settings};
-ghost use Rattle.listing.specs.Pieces.{numbers, number_in};
-ghost use Rattle.listing.specs.Filling.{with_object, with_roots, with_heap, BodyFits, ObjectsFilled};
+ghost use Rattle.listing.specs.Numeral.{numeral, value_of};
+ghost use Rattle.listing.specs.Pieces.{numbers};
+ghost use Rattle.listing.specs.Filling.{with_roots, with_heap, BodyFits, ObjectsFilled};
 
 use crate::header::Body;
 use crate::lines::Lines;
@@ -15,12 +16,12 @@ use crate::value::NumberList;
 use heap::{CheckedHeap, ObjectEntry};
 use refusal::Fault;
 
-// The number that a piece of a list is. The listing is known to be right: what is no number counts as 0, and one above 65,535 as that.
+// The number that a piece of a list is. The list is known: each piece is a number, and none is above 65,535.
 fn number_in(piece: &[u8]) -> u16
-    ensures { result ≡ number_in piece.now }
+    requires { (numeral piece.now ≡ true) × (value_of piece.now ≤ 65535) }
+    ensures { result ≡ value_of piece.now }
 {
-    let n = number(piece).unwrap_or(0);
-    u16::try_from(n).unwrap_or(u16::MAX)
+    u16::try_from(number(piece).unwrap()).unwrap()
 }
 
 // Writes the numbers of a list into places, one each.
@@ -28,41 +29,42 @@ fn fill_numbers(list: NumberList<'_>, places: &mut [u16])
     requires { list.count ≡ length places.old }
     ensures { places.new ≡ numbers list.entry.text.now }
 {
-    // by index: of what `iter_mut` lends, a proof knows only how many there are
-    for (i, piece) in (0..places.len()).zip(list.text.split(|byte| *byte == b',')) {
-        places[i] = number_in(piece);
+    let mut pieces = list.text.split(|byte| *byte == b',');
+    for place in places.iter_mut() {
+        *place = number_in(pieces.next().unwrap());
     }
 }
 
-// Writes an object, its entry at place `i` and its references from place `first` on. The heap has no objects yet, so its law holds at every
-// write. No From leads from usize to u32: the promise says that `first` and the count fit.
-fn fill_object(object: ObjectLines<'_>, i: usize, first: usize, heap: &mut CheckedHeap)
-    requires room { (i < length heap.old.object_table.now) × (first + object.refs.count ≤ length heap.old.reference_table.now) × (first + object.refs.count ≤ 262144) }
-    requires empty { (heap.old.objects ≡ 0) × (heap.old.references ≡ 0) }
-    ensures { tables_of heap.new ≡ with_object i (record { at = object.entry.at; len = object.entry.len; first = first; count = object.entry.refs.count }) (numbers object.entry.refs.text.now) (tables_of heap.old) }
+// The entry of an object whose references begin at place `first`.
+fn entry_of(object: ObjectLines<'_>, first: usize) -> ObjectEntry
+    requires { first + object.refs.count < 2 ^ 32 }
+    ensures { result ≡ record { at = object.entry.at; len = object.entry.len; first = first; count = object.entry.refs.count } }
 {
-    let behind = first + object.refs.count;
-    fill_numbers(object.refs, &mut heap.reference_table[first..behind]);
-    heap.object_table[i] = ObjectEntry {
+    ObjectEntry {
         at: object.at,
         len: object.len,
-        first: first as u32,
-        count: object.refs.count as u32,
-    };
+        first: u32::try_from(first).unwrap(),
+        count: u32::try_from(object.refs.count).unwrap(),
+    }
 }
 
-// Reads the lines of all objects once more, and fills the tables. The heap is empty, and the listing is known to be right. Not one
-// function with the first pass: what a closure changes at each object, a proof loses.
+// Reads the lines of all objects once more, and fills the tables. The heap is empty, so its law holds whatever is written, and the
+// listing is known to be right.
 fn fill_objects<'t>(body: Body<'t>, heap: &mut CheckedHeap) -> Result<Lines<'t>, Fault>
     requires fits { BodyFits body.header body.lines.text.now (tables_of heap.old) }
     requires empty { (heap.old.objects ≡ 0) × (heap.old.references ≡ 0) }
     ensures { MatchResult result (λ rest. ObjectsFilled body.entry.header body.entry.lines.text.now (tables_of heap.old) (tables_of heap.new) rest.text.now × (rest.number ≡ 6 + 3 * body.entry.header.objects)) (λ _. ⊥) }
 {
     let mut objects = ObjectReader::new(body);
-    for i in 0..body.header.objects {
+    // bound before the loop: an invariant cannot name a table that is lent out of the heap inside it
+    let entries = &mut heap.object_table[..usize::from(body.header.objects)];
+    let references = &mut *heap.reference_table;
+    for entry in entries.iter_mut() {
         let first = objects.references;
         let object = objects.next_object()?;
-        fill_object(object, usize::from(i), first, heap);
+        let behind = objects.references;
+        fill_numbers(object.refs, &mut references[first..behind]);
+        *entry = entry_of(object, first);
     }
     Ok(objects.lines)
 }

@@ -3,7 +3,8 @@ ghost use Rattle.listing.specs.Lines.{read_header};
 
 use crate::key::Key;
 use crate::lines::Lines;
-use crate::settings::Header;
+use crate::settings::{Header, MOST_MARKERS};
+use heap::{MOST_CELLS, MOST_OBJECTS};
 use refusal::Fault;
 
 // A listing behind its header: the header, and the lines from line 6 on.
@@ -19,11 +20,11 @@ pub(crate) fn read_header(text: &[u8]) -> Result<Body<'_>, Fault>
     ensures { MatchResult result (λ b. read_header text.now ≡ Ok (b.header, b.lines.text.now)) (λ f. read_header text.now ≡ Err f) }
 {
     let mut lines = Lines { text, number: 1 };
-    let cells = lines.value(Key::Cells)?.number(1, 65535)?;
+    let cells = lines.value(Key::Cells)?.number(1, MOST_CELLS)?;
     let width = lines.value(Key::Width)?.width(cells)?;
-    let markers = lines.value(Key::Markers)?.number(1, 16)?;
+    let markers = lines.value(Key::Markers)?.number(1, MOST_MARKERS)?;
     let share = lines.value(Key::Share)?.rule()?;
-    let objects = lines.value(Key::Objects)?.number(0, 65535)?;
+    let objects = lines.value(Key::Objects)?.number(0, MOST_OBJECTS)?;
     let header = Header {
         cells,
         width,

@@ -4,6 +4,7 @@ ghost use Rattle.listing.specs.Lines.{value_at, read_roots};
 use crate::key::Key;
 use crate::list::split_once;
 use crate::value::{NumberList, Value};
+use heap::MOST_ROOTS;
 use refusal::{Fault, Refusal};
 
 // The lines of a listing that are still to be read: the text from line `number` on.
@@ -39,6 +40,6 @@ impl<'t> Lines<'t> {
         ensures value { MatchResult result (λ l. read_roots self.old.number objects self.old.text.now ≡ Ok ((l.count, l.text.now), self.new.text.now)) (λ f. read_roots self.old.number objects self.old.text.now ≡ Err f) }
         ensures number { IfOk result (λ _. self.new.number ≡ self.old.number + 1) }
     {
-        self.value(Key::Roots)?.list(0, 4096, objects)
+        self.value(Key::Roots)?.list(0, MOST_ROOTS, objects)
     }
 }

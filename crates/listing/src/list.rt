@@ -22,7 +22,7 @@ pub(crate) fn split_once(text: &[u8], separator: u8) -> Option<(&[u8], &[u8])>
 }
 
 // How many numbers a list has, and the largest of them, or the largest u32 where that is larger.
-#[derive(Clone, Copy)]
+#[derive(Clone, Copy, Default)]
 pub struct Survey {
     pub count: usize,
     pub largest: u32,
@@ -32,10 +32,7 @@ pub struct Survey {
 pub(crate) fn survey_list(text: &[u8]) -> Result<Survey, Refusal>
     ensures { result ≡ surveyed (listed text.now) }
 {
-    let mut seen = Survey {
-        count: 0,
-        largest: 0,
-    };
+    let mut seen = Survey::default();
     if text.is_empty() {
         return Ok(seen);
     }

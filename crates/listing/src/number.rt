@@ -5,19 +5,16 @@ ghost use Rattle.std.specs.Str.{all_ascii_digits};
 
 use refusal::Refusal;
 
-// By hand: `parse` refuses a number above u32, which is right in form, and takes a sign.
-// The number that digits write, or the largest u32 where it is larger; a byte that is no digit is a fault in form.
+// The number that digits write, or the largest u32 where it is larger; a byte that is no digit is a fault in form. By hand: `parse` refuses
+// a number above u32, which is right in form, and takes a sign.
 fn digits(text: &[u8]) -> Result<u32, Refusal>
     ensures { result ≡ (if all_ascii_digits text.now then Ok (min (value_of text.now) (2 ^ 32 - 1)) else Err Form) }
 {
     let mut value = 0u32;
     for b in text {
-        match *b {
-            b'0'..=b'9' => value = value
-                .saturating_mul(10)
-                .saturating_add(u32::from(*b - b'0')),
-            _ => return Err(Refusal::Form),
-        }
+        let digit = char::from(*b).to_digit(10).ok_or(Refusal::Form)?;
+        // a number too large for a u32 counts as the largest, which is out of every range
+        value = value.saturating_mul(10).saturating_add(digit);
     }
     Ok(value)
 }
@@ -27,8 +24,7 @@ pub(crate) fn number(text: &[u8]) -> Result<u32, Refusal>
     ensures { result ≡ (if numeral text.now then Ok (min (value_of text.now) (2 ^ 32 - 1)) else Err Form) }
 {
     match text {
-        [] => Err(Refusal::Form),
-        [b'0', _, ..] => Err(Refusal::Form),
+        [] | [b'0', _, ..] => Err(Refusal::Form),
         _ => digits(text),
     }
 }

@@ -1,10 +1,11 @@
-ghost use Rattle.std.specs.Prelude.{◌≡◌, ℕ, ◌+◌, ◌≤◌, IfOk, Ok, Err, MatchResult};
+ghost use Rattle.std.specs.Prelude.{◌≡◌, ℕ, ◌+◌, ◌*◌, ◌≤◌, IfOk, Ok, Err, MatchResult};
 
 use crate::header::Body;
 use crate::key::Key;
 use crate::lines::Lines;
 use crate::settings::Header;
 use crate::value::NumberList;
+use heap::MOST_REFERENCES;
 use refusal::Fault;
 
 // An object as its three lines give it; its references are still text.
@@ -40,9 +41,9 @@ impl<'t> ObjectReader<'t> {
         }
     }
 
-    // The next object.
+    // The next object. The last of 65,535 begins on line 6 + 3 * 65,534, so no line number wraps.
     pub(crate) fn next_object(&mut self) -> Result<ObjectLines<'t>, Fault>
-        requires { self.old.lines.number ≤ 196608 }
+        requires { self.old.lines.number ≤ 6 + 3 * 65534 }
         ensures value { MatchResult result (λ o. object_at self.old ≡ Ok ((o.at, o.len, (o.refs.count, o.refs.text.now)), self.new.lines.text.now)) (λ f. object_at self.old ≡ Err f) }
         ensures after { IfOk result (λ o. GoesOn self.old o self.new) }
         ensures within { IfOk result (λ o. self.old.references + o.refs.count ≤ 262144) }
@@ -52,7 +53,7 @@ impl<'t> ObjectReader<'t> {
         let refs = self
             .lines
             .value(Key::Refs)?
-            .list(self.references, 262_144, self.header.objects)?;
+            .list(self.references, MOST_REFERENCES, self.header.objects)?;
         self.end = at + len;
         self.references += refs.count;
         Ok(ObjectLines { at, len, refs })

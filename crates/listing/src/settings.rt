@@ -26,7 +26,7 @@ impl SharingRule {
     }
 }
 
-// A rule prints as its word.
+// A rule prints as its word. An impl for each type with a word: the orphan rule refuses one for all.
 impl fmt::Display for SharingRule {
     ghost output = { λ rule. Some (word_of rule) };
 
@@ -50,6 +50,9 @@ impl TryFrom<&[u8]> for SharingRule {
         }
     }
 }
+
+// The most markers that share a heap.
+pub(crate) const MOST_MARKERS: u16 = 16;
 
 // What a listing says besides the heap: how many markers there are, 1 to 16, and how they share.
 #[derive(Clone, Copy, PartialEq, Eq, Debug)]

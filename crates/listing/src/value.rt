@@ -7,6 +7,7 @@ ghost use Rattle.listing.specs.Lines.{numbered, width_in, at_in, len_in, ruled, 
 use crate::list::survey_list;
 use crate::number::number;
 use crate::settings::SharingRule;
+use heap::{MOST_CELLS, MOST_OBJECTS, MOST_SECTIONS};
 use refusal::{Fault, Refusal};
 
 // The value of a line, and the line's number.
@@ -39,8 +40,9 @@ impl<'t> Value<'t> {
     fn on_line<T>(self, read: Result<T, Refusal>) -> Result<T, Fault>
         ensures { result ≡ on_line self.entry.line read }
     {
-        let line = self.line;
-        read.map_err(|refusal| Fault { refusal, line })
+        // bound first: written inside the call, it tells the proof nothing
+        let fault = |refusal| self.fault(refusal);
+        read.map_err(fault)
     }
 
     // The value as a number between two bounds.
@@ -50,18 +52,19 @@ impl<'t> Value<'t> {
     {
         let n = self.on_line(number(self.text))?;
         match u16::try_from(n) {
-            Ok(n) if low <= n && n <= high => Ok(n),
+            Ok(n) if (low..=high).contains(&n) => Ok(n),
             _ => Err(self.fault(Refusal::Range)),
         }
     }
 
     // The value as a width: it cuts the cells into at most 64 sections.
+    #[tactic(auto, using(crate::proofs::Values::sections_by_width))]
     pub(crate) fn width(self, cells: u16) -> Result<u16, Fault>
         ensures { result ≡ on_line self.entry.line (width_in cells self.entry.text.now) }
     {
-        let width = self.number(1, 65535)?;
+        let width = self.number(1, MOST_CELLS)?;
         let sections = cells.div_ceil(width);
-        if sections <= 64 {
+        if sections <= MOST_SECTIONS {
             Ok(width)
         } else {
             Err(self.fault(Refusal::Range))
@@ -72,7 +75,7 @@ impl<'t> Value<'t> {
     pub(crate) fn start(self, end: u16) -> Result<u16, Fault>
         ensures { result ≡ on_line self.entry.line (at_in end self.entry.text.now) }
     {
-        let at = self.number(0, 65535)?;
+        let at = self.number(0, MOST_CELLS)?;
         if end <= at {
             Ok(at)
         } else {
@@ -85,7 +88,7 @@ impl<'t> Value<'t> {
         ensures value { result ≡ on_line self.entry.line (len_in at cells self.entry.text.now) }
         ensures within { IfOk result (λ len. at + len ≤ cells) }
     {
-        let len = self.number(1, 65535)?;
+        let len = self.number(1, MOST_CELLS)?;
         let end = u32::from(at) + u32::from(len);
         if end <= u32::from(cells) {
             Ok(len)
@@ -124,7 +127,7 @@ fn count_in(text: &[u8], before: usize, most: usize, objects: u16) -> Result<usi
 {
     let list = survey_list(text)?;
     let room = most.checked_sub(before);
-    if list.largest > 65535 || room.is_none_or(|room| list.count > room) {
+    if list.largest > u32::from(MOST_OBJECTS) || room.is_none_or(|room| list.count > room) {
         return Err(Refusal::Range);
     }
     if list.largest > u32::from(objects) {

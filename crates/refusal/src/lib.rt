@@ -36,6 +36,7 @@ impl From<Refusal> for u8 {
     ghost from_gives = { λ refusal number. number ≡ number_of refusal };
 
     fn from(refusal: Refusal) -> u8 {
+        // by `as`: an enum's own number has no other way out
         refusal as u8
     }
 }
@@ -62,7 +63,7 @@ impl Refusal {
     }
 }
 
-// A refusal prints as its word.
+// A refusal prints as its word. An impl for each type with a word: the orphan rule refuses one for all.
 impl fmt::Display for Refusal {
     ghost output = { λ refusal. Some (word_of refusal) };
 

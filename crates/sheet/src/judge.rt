@@ -5,7 +5,7 @@ ghost use Rattle.listing.specs.declared.settings.Settings.{Settings};
 ghost use Rattle.sheet.specs.Judged.{printed, longest, judged_up_to, answer_to, shown};
 
 use crate::texts::Sheet;
-use heap::{CheckedHeap, ObjectEntry};
+use heap::{CheckedHeap, MOST_OBJECTS, MOST_REFERENCES, MOST_ROOTS, ObjectEntry};
 use listing::read;
 use refusal::{Fault, Refusal};
 use std::alloc::{AllocError, Global};
@@ -67,15 +67,8 @@ pub fn longest_listing() -> usize
     2_962_630
 }
 
-// The most objects, references and roots of a heap: tables that long suffice for every listing.
-const MOST_OBJECTS: usize = 65_535;
-
-const MOST_REFERENCES: usize = 262_144;
-
-const MOST_ROOTS: usize = 4_096;
-
 // Judges a text as a listing. One that is longer than any listing is refused for want of memory, with line 0, and not read. Whether
-// there is memory for the tables is left open.
+// there is memory for the tables, which are as long as any heap needs, is left open.
 pub fn judge_listing(memory: Global, text: &[u8]) -> Result<Sheet, JudgeError>
     ensures answer { result ≢ Err JudgeError.OutOfMemory → result ≡ answer_to (judged_up_to text.now) }
     ensures shown { result ≢ Err JudgeError.OutOfMemory → shown result ≡ printed (judged_up_to text.now) }
@@ -86,7 +79,7 @@ pub fn judge_listing(memory: Global, text: &[u8]) -> Result<Sheet, JudgeError>
             line: 0,
         }));
     }
-    let mut objects = vec![in memory; ObjectEntry::default(); MOST_OBJECTS]?;
+    let mut objects = vec![in memory; ObjectEntry::default(); usize::from(MOST_OBJECTS)]?;
     let mut references = vec![in memory; 0u16; MOST_REFERENCES]?;
     let mut roots = vec![in memory; 0u16; MOST_ROOTS]?;
     let mut heap = CheckedHeap::empty(&mut objects, &mut references, &mut roots);

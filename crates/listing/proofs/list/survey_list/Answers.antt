@@ -1,4 +1,4 @@
-use Rattle.std.proofs.Common.{◌+◌, ◌<◌, ℕ, max, List, [], ◌∷◌, ◌++◌, eqb, length, drop, refl, ap, ◌∙◌, rules, arith}
+use Rattle.std.proofs.Common.{◌+◌, ◌<◌, ℕ, max, List, [], ◌∷◌, ◌++◌, eqb, length, drop, ap, ◌∙◌, rules, arith}
 use Rattle.std.specs.List.{slice_split}
 use Rattle.std.proofs.iter.Serving.{serving}
 use Rattle.std.proofs.lemmas.Iterator.Splits.{YieldsList-from_slice_split}
@@ -15,7 +15,7 @@ abbrev parts : List ℕ → List (List ℕ)
 parts text = slice_split (λ b. eqb b 44) text
 
 pub loop-piece-init : goal.loop-piece-init
-loop-piece-init c = (grind serving, search rules, survey_start (parts c.args.text.now) ∙ ap surveyed (pieces_split 44 c.args.text.now), refl)
+loop-piece-init c = (grind serving, search rules, ap (λ s. survey_after s (parts c.args.text.now)) (search rules) ∙ survey_start (parts c.args.text.now) ∙ ap surveyed (pieces_split 44 c.args.text.now), search rules)
 
 pub returns-in_err-n : goal.returns-in_err-n
 returns-in_err-n c =
