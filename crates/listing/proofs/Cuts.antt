@@ -67,3 +67,7 @@ pieces_split s (b ∷ bs) =
       | true ↦ ap (λ ps. [] ∷ ps) (pieces_split s bs)
       | false ↦ (ap (onto_first b) (pieces_split s bs ∙ pieces_step s bs) ∙ ap (on_first b) (sym (pieces_step s bs)))
     ]
+
+-- the pieces of a list of numbers, as `split` gives them
+abbrev pub parts : List ℕ → List (List ℕ)
+parts text = slice_split (λ b. eqb b 44) text

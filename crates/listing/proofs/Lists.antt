@@ -1,6 +1,5 @@
 -- The numbers of a list, piece by piece, each with its place.
-use Rattle.std.proofs.Common.{◌≡◌, ℕ, zero, suc, ◌+◌, ◌<◌, ◌≤◌, true, eqb, List, [], ◌∷◌, length, get_or, drop, Some, None, Option, sym, refl, ap, subst, arith}
-use Rattle.std.specs.List.{slice_split}
+use Rattle.std.proofs.Common.{◌≡◌, ℕ, zero, suc, ◌+◌, ◌<◌, ◌≤◌, true, List, [], ◌∷◌, length, get_or, drop, Some, None, Option, sym, refl, ap, subst, arith}
 use Rattle.std.specs.Iterator.{AlwaysYields}
 use Rattle.std.specs.Option.{IsSome}
 use Rattle.std.proofs.lemmas.Iterator.{YieldsList}
@@ -9,11 +8,7 @@ use Rattle.std.proofs.lemmas.Bool.{and_parts}
 use Rattle.listing.specs.Numeral.{numeral, value_of}
 use Rattle.listing.specs.Pieces.{pieces, all_numerals, numbers, largest}
 use Rattle.listing.specs.Survey.{NumbersIn}
-use Rattle.listing.proofs.Cuts.{pieces_split}
-
--- the pieces between the commas, as the library's `split` gives them
-abbrev pub parts : List ℕ → List (List ℕ)
-parts text = slice_split (λ b. eqb b 44) text
+use Rattle.listing.proofs.Cuts.{parts, pieces_split}
 
 numeral_at : (ps : List (List ℕ)) (i : ℕ) (d : List ℕ) → all_numerals ps ≡ true → i < length ps → numeral (get_or ps i d) ≡ true
 numeral_at [] i d a l = absurd (omega arith)

@@ -2,7 +2,7 @@ use Rattle.std.proofs.Common.{◌≡◌, drop}
 use Rattle.std.proofs.Math.Seq.{paste}
 use Rattle.std.proofs.lemmas.Iterator.{YieldsList}
 use Rattle.listing.specs.Pieces.{numbers}
-use Rattle.listing.proofs.Lists.{parts}
+use Rattle.listing.proofs.Cuts.{parts}
 use Rattle.listing.proofs.fill.fill_numbers.Given as goal
 
 -- the pieces that are left come from the iterator, and the numbers before them are written

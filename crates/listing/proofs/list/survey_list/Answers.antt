@@ -1,18 +1,13 @@
-use Rattle.std.proofs.Common.{◌+◌, ◌<◌, ℕ, max, List, [], ◌∷◌, ◌++◌, eqb, length, drop, ap, ◌∙◌, rules, arith}
-use Rattle.std.specs.List.{slice_split}
+use Rattle.std.proofs.Common.{◌+◌, ◌<◌, max, [], ◌∷◌, ◌++◌, eqb, length, drop, ap, ◌∙◌, rules, arith}
 use Rattle.std.proofs.iter.Serving.{serving}
 use Rattle.std.proofs.lemmas.Iterator.Splits.{YieldsList-from_slice_split}
 use Rattle.std.proofs.lemmas.Iterator.Consumers.{YieldsList-turn, YieldsList-end}
 use Rattle.std.proofs.lemmas.List.{length_push}
 use Rattle.std.proofs.lemmas.Result.{err_from_is_err_and}
 use Rattle.listing.specs.Survey.{surveyed}
-use Rattle.listing.proofs.Cuts.{pieces_split}
+use Rattle.listing.proofs.Cuts.{parts, pieces_split}
 use Rattle.listing.proofs.Surveys.{survey_after, survey_start, survey_more, survey_not, survey_all, listed_some}
 use Rattle.listing.proofs.list.survey_list.Goals as goal
-
--- the pieces of the text, as the iterator gives them
-abbrev parts : List ℕ → List (List ℕ)
-parts text = slice_split (λ b. eqb b 44) text
 
 pub loop-piece-init : goal.loop-piece-init
 loop-piece-init c = (grind serving, search rules, ap (λ s. survey_after s (parts c.args.text.now)) (search rules) ∙ survey_start (parts c.args.text.now) ∙ ap surveyed (pieces_split 44 c.args.text.now), search rules)
