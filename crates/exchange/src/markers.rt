@@ -12,8 +12,10 @@ pub(crate) struct Markers {
 }
 
 impl Markers {
-    // The most markers, and the pairs that so many have.
+    // The most markers.
     const MOST: usize = 16;
+
+    // How many pairs so many markers have.
     pub(crate) const PAIRS: usize = Markers::MOST * (Markers::MOST - 1);
 
     // One marker, which has no pair.
