@@ -78,7 +78,8 @@ fn fill_roots(roots: NumberList<'_>, heap: &mut CheckedHeap)
     fill_numbers(roots, &mut heap.root_table[..roots.count]);
 }
 
-// Reads the lines behind the header once more, and fills the tables. The heap is empty, and the listing is known to be right.
+// Reads the lines behind the header once more, and fills the tables. The heap is empty, and the listing is known to be right. That the heap
+// is empty stands in clauses: a type that says so would have to lend the heap on once more, for three functions.
 pub(crate) fn fill_tables(body: Body<'_>, heap: &mut CheckedHeap) -> Result<(), Fault>
     requires fits { BodyFits body.header body.lines.text.now (tables_of heap.old) }
     requires empty { (heap.old.objects ≡ 0) × (heap.old.references ≡ 0) × (heap.old.roots ≡ 0) }

@@ -19,7 +19,7 @@ pub enum JudgeError {
     OutOfMemory,
 }
 
-// A refusal prints as two lines, its number and its line.
+// A refusal prints as two lines, its number and its line; want of memory as an `AllocError` does, without a line end.
 impl fmt::Display for JudgeError {
     ghost use Rattle.sheet.specs.Texts.{error_text};
 
@@ -31,7 +31,6 @@ impl fmt::Display for JudgeError {
                 let number = u8::from(refusal);
                 write!(f, "refused={number}\nline={line}\n")
             }
-            // as an `AllocError` prints
             JudgeError::OutOfMemory => f.write_str("memory allocation failed"),
         }
     }
