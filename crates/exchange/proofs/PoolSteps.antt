@@ -143,7 +143,7 @@ module _ (s : PoolState) (i j : ℕ) (p : Pair s.served i j) where
         others = λ a b r ne. removed_there s (pair_at s.served i j) k found roomP roomW (pair_at s.served a b) (apart a b r ne);
       })
 
-module _ (p : Pool) (i j q : ℕ) (n : Numbered p.served.count i j (Ok q)) (roomP : p.held ≤ length p.pairs) where
+module _ (p : Pool) (i j q : ℕ) (n : Numbered p.served i j (Ok q)) (roomP : p.held ≤ length p.pairs) where
   -- a search finds a task exactly where one waits
   pub look_meaning : (o : Option ℕ) → o ≡ newest_of q p.pairs p.held → LookSays pool_serves pool_waiting pool_vacant i j p p (Ok (is_none o))
   look_meaning (Some k) e = (n.0, rw (← n.1) (some_wait (pool_of p) q k (sym e) roomP p.lent), (refl, λ a b r. (refl, refl)))

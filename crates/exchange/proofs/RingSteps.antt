@@ -108,10 +108,12 @@ same_ring r r' w m n c = λ i. record {
   served = m i;
   length = n i;
   cursors = c i;
+  someone = is_prop→PathP (λ j. 1 ≤ m j) (λ j. hlevel props) r'.someone r.someone i;
+  sixteen = is_prop→PathP (λ j. m j ≤ 16) (λ j. hlevel props) r'.sixteen r.sixteen i;
   holds = is_prop→PathP (λ j. 1 ≤ n j) (λ j. hlevel props) r'.holds r.holds i;
   bounded = is_prop→PathP (λ j. n j ≤ 64) (λ j. hlevel props) r'.bounded r.bounded i;
-  room = is_prop→PathP (λ j. pairs_of (m j).count * n j ≤ length (w j).now) (λ j. hlevel props) r'.room r.room i;
-  rings = is_prop→PathP (λ j. (q : ℕ) → q < pairs_of (m j).count → IsRing (cursors_of q (c j)) (entries_of (n j) q (w j).now)) (λ j. hlevel props) r'.rings r.rings i;
+  room = is_prop→PathP (λ j. pairs_of (m j) * n j ≤ length (w j).now) (λ j. hlevel props) r'.room r.room i;
+  rings = is_prop→PathP (λ j. (q : ℕ) → q < pairs_of (m j) → IsRing (cursors_of q (c j)) (entries_of (n j) q (w j).now)) (λ j. hlevel props) r'.rings r.rings i;
 }
 
 -- in place of r stands r', where the pair with number q has the cursors c and the entries es
@@ -130,13 +132,13 @@ module _ (c c' : Cursors) (es es' : List ℕ) where
   take_length (Some t) v = rw (v.entries, length-set) refl
   take_length None v = ap length v.2.1
 
-module _ (r : Ring) (q : ℕ) (l : q < pairs_of r.served.count) (few : q < length r.cursors) (c : Cursors) (es : List ℕ) where
+module _ (r : Ring) (q : ℕ) (l : q < pairs_of r.served) (few : q < length r.cursors) (c : Cursors) (es : List ℕ) where
   abbrev pub renewed : RingState
   renewed = record (ring_of r) { words = with_part r.length (q * r.length) r.words.now es; cursors = set r.cursors q c }
 
   -- the part that is lent ends within the words
   pub lent_within : q * r.length + r.length ≤ length r.words.now
-  lent_within = row_within q (pairs_of r.served.count) r.length r.words.now l r.room
+  lent_within = row_within q (pairs_of r.served) r.length r.words.now l r.room
 
   pub put_rings : (t : ℕ) (a : Put) → PairPut (pair_cursors (ring_of r) q) c (entries_of r.length q r.words.now) es t a → IsRing c es → Rings renewed
   put_rings t a f ring = rings_with (ring_of r) (rings r) q l c es (put_length _ c _ es t a f) few ring
@@ -144,7 +146,7 @@ module _ (r : Ring) (q : ℕ) (l : q < pairs_of r.served.count) (few : q < lengt
   pub take_rings : (a : Option ℕ) → PairTake (pair_cursors (ring_of r) q) c (entries_of r.length q r.words.now) es a → IsRing c es → Rings renewed
   take_rings a v ring = rings_with (ring_of r) (rings r) q l c es (take_length _ c _ es a v) few ring
 
-module _ (r : Ring) (i j q : ℕ) (n : Numbered r.served.count i j (Ok q)) (few : q < length r.cursors) (c : Cursors) (es : List ℕ) where
+module _ (r : Ring) (i j q : ℕ) (n : Numbered r.served i j (Ok q)) (few : q < length r.cursors) (c : Cursors) (es : List ℕ) where
   abbrev own : Cursors
   own = pair_cursors (ring_of r) q
 
@@ -180,13 +182,13 @@ module _ (r : Ring) (i j q : ℕ) (n : Numbered r.served.count i j (Ok q)) (few 
   cursors_stay u = ap (set r.cursors q) u ∙ set-get_or r.cursors q at_start
 
   stays : Unchanged own c held es → after ≡ ring_of r
-  stays u = λ k. record { served = r.served.count; length = r.length; words = words_stay u.1 k; cursors = cursors_stay u.0 k; lender = r.words.ghost_name }
+  stays u = λ k. record { served = r.served; length = r.length; words = words_stay u.1 k; cursors = cursors_stay u.0 k; lender = r.words.ghost_name }
 
-  pub put_memory : (t : ℕ) (a : Put) → PairPut own c held es t a → RingPut (pair_at r.served.count i j) t (ring_of r) after (Ok a)
+  pub put_memory : (t : ℕ) (a : Put) → PairPut own c held es t a → RingPut (pair_at r.served i j) t (ring_of r) after (Ok a)
   put_memory t Joined f = rw (← n.1) (sym at_tail ∙ f.vacant, is_filled (ring_of r) (rings r) q n.2 c es (put_length _ c _ es t Joined f) few t (rw whole tail_within) f)
   put_memory t NoVacancy f = rw (← n.1) (λ z. f.0 (at_tail ∙ z), stays f.2)
 
-  pub take_memory : (a : Option ℕ) → PairTake own c held es a → RingTake (pair_at r.served.count i j) (ring_of r) after (Ok a)
+  pub take_memory : (a : Option ℕ) → PairTake own c held es a → RingTake (pair_at r.served i j) (ring_of r) after (Ok a)
   take_memory (Some t) v =
       let same = take_length _ c _ es (Some t) v in
       rw (← n.1) (
@@ -203,22 +205,22 @@ module _ (r : Ring) (i j q : ℕ) (n : Numbered r.served.count i j (Ok q)) (few 
         (new.words ∙ ap (λ xs. set_vals xs r.words) (words_stay u.1)) new.served new.length (new.cursors ∙ cursors_stay u.0)
 
     state : ring_of r' ≡ after
-    state = λ k. record { served = (new.served k).count; length = new.length k; words = (new.words k).now; cursors = new.cursors k; lender = (new.words k).ghost_name }
+    state = λ k. record { served = new.served k; length = new.length k; words = (new.words k).now; cursors = new.cursors k; lender = (new.words k).ghost_name }
 
     pub put_meaning : (t : ℕ) (a : Put) → 0 < t → PairPut own c held es t a → PutSays ring_serves ring_waiting ring_vacant i j t r r' (Ok a)
     put_meaning t Joined some f = (
       n.0,
       some,
       rw (← n.1) (omega (arith, f.room, whole)),
-      ap (λ m. m.count) new.served,
-      subst (λ z. Joins r.served.count i j t (queues (ring_of r)) (queues z)) (sym state) (joins (ring_of r) (rings r) q n.2 c es (put_length _ c _ es t Joined f) few i j n.0 n.1 t f),
+      new.served,
+      subst (λ z. Joins r.served i j t (queues (ring_of r)) (queues z)) (sym state) (joins (ring_of r) (rings r) q n.2 c es (put_length _ c _ es t Joined f) few i j n.0 n.1 t f),
     )
     put_meaning t NoVacancy some f = (n.0, some, rw (← n.1) (omega (arith, f.1, whole)), unchanged f.2)
 
     pub take_meaning : (a : Option ℕ) → PairTake own c held es a → TakeSays ring_serves ring_waiting ring_vacant i j r r' (Ok a)
     take_meaning (Some t) v = (
       n.0,
-      ap (λ m. m.count) new.served,
-      subst (λ z. Leaves r.served.count i j t (queues (ring_of r)) (queues z)) (sym state) (leaves (ring_of r) (rings r) q n.2 c es (take_length _ c _ es (Some t) v) few i j n.0 n.1 t v),
+      new.served,
+      subst (λ z. Leaves r.served i j t (queues (ring_of r)) (queues z)) (sym state) (leaves (ring_of r) (rings r) q n.2 c es (take_length _ c _ es (Some t) v) few i j n.0 n.1 t v),
     )
     take_meaning None v = (n.0, rw (← n.1) v.1, unchanged v.2)

@@ -28,17 +28,17 @@ none_below queue zero h = refl
 none_below queue (suc q) h = omega (arith, none_below queue q (λ p l. h p (omega arith)), ap length (h q (omega arith)))
 
 -- where nothing waits on any pair, nothing waits on any number
-none_wait : (p : Pool) → ((i j : ℕ) → Pair p.served.count i j → pool_waiting p i j ≡ []) → all_waiting (pool_of p) ≡ 0
-none_wait p idle = none_below (pool_tasks (pool_of p)) (pairs_of p.served.count) (λ q l.
-    let of = pair_of p.served.count q l in
+none_wait : (p : Pool) → ((i j : ℕ) → Pair p.served i j → pool_waiting p i j ≡ []) → all_waiting (pool_of p) ≡ 0
+none_wait p idle = none_below (pool_tasks (pool_of p)) (pairs_of p.served) (λ q l.
+    let of = pair_of p.served q l in
     subst (λ a. pool_tasks (pool_of p) a ≡ []) of.3 (idle of.0 of.1 of.2))
 
 pub pool_laws : Laws pool_serves pool_waiting pool_vacant 1024
 pool_laws = record {
-  serves_one = λ p. p.served.someone;
-  serves_at_most_16 = λ p. p.served.sixteen;
+  serves_one = λ p. p.someone;
+  serves_at_most_16 = λ p. p.sixteen;
   most_at_least_1 = omega arith;
   most_at_most_4096 = omega arith;
-  lists_at_most = λ p i j _. omega (arith, tasks_short (pair_at p.served.count i j) p.pairs p.words.now 0 p.held, p.bounded);
+  lists_at_most = λ p i j _. omega (arith, tasks_short (pair_at p.served i j) p.pairs p.words.now 0 p.held, p.bounded);
   vacant_when_idle = λ p idle i j _. omega (arith, none_wait p idle);
 }

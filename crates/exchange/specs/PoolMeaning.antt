@@ -20,7 +20,7 @@ pub record PoolState : Type 0 where
 
 -- the state of a pool
 abbrev pub pool_of : Pool → PoolState
-pool_of p = record { served = p.served.count; held = p.held; words = p.words.now; pairs = p.pairs; lender = p.words.ghost_name }
+pool_of p = record { served = p.served; held = p.held; words = p.words.now; pairs = p.pairs; lender = p.words.ghost_name }
 
 -- the tasks of the pair with number q
 abbrev pub pool_tasks : PoolState → ℕ → List ℕ
@@ -32,11 +32,11 @@ all_waiting s = waiting_below (pool_tasks s) (pairs_of s.served)
 
 -- how many markers it serves
 abbrev pub pool_serves : Pool → ℕ
-pool_serves p = p.served.count
+pool_serves p = p.served
 
 -- the tasks that wait on <i,j>
 abbrev pub pool_waiting : Pool → Queues
-pool_waiting p i j = pool_tasks (pool_of p) (pair_at p.served.count i j)
+pool_waiting p i j = pool_tasks (pool_of p) (pair_at p.served i j)
 
 -- 1,024 less all that wait, whatever the pair
 abbrev pub pool_vacant : Pool → ℕ → ℕ → ℕ

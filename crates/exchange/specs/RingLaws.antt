@@ -21,10 +21,10 @@ tasks_short len q head words =
 
 pub ring_laws : Laws ring_serves ring_waiting ring_vacant 64
 ring_laws = record {
-  serves_one = λ r. r.served.someone;
-  serves_at_most_16 = λ r. r.served.sixteen;
+  serves_one = λ r. r.someone;
+  serves_at_most_16 = λ r. r.sixteen;
   most_at_least_1 = omega arith;
   most_at_most_4096 = omega arith;
-  lists_at_most = λ r i j p. omega (arith, tasks_short r.length (pair_at r.served.count i j) (cursors_of (pair_at r.served.count i j) r.cursors).head r.words.now, r.bounded);
+  lists_at_most = λ r i j p. omega (arith, tasks_short r.length (pair_at r.served i j) (cursors_of (pair_at r.served i j) r.cursors).head r.words.now, r.bounded);
   vacant_when_idle = λ r idle i j p. let e = ap length (idle i j p) in omega (arith, e, r.holds);
 }

@@ -21,7 +21,7 @@ pub record RingState : Type 0 where
 
 -- the state of a ring
 abbrev pub ring_of : Ring → RingState
-ring_of r = record { served = r.served.count; length = r.length; words = r.words.now; cursors = r.cursors; lender = r.words.ghost_name }
+ring_of r = record { served = r.served; length = r.length; words = r.words.now; cursors = r.cursors; lender = r.words.ghost_name }
 
 -- the head and the tail of the pair with number q
 abbrev pub pair_cursors : RingState → ℕ → Cursors
@@ -33,11 +33,11 @@ ring_tasks s q = tasks (entries_of s.length q s.words) (pair_cursors s q).head
 
 -- how many markers it serves
 abbrev pub ring_serves : Ring → ℕ
-ring_serves r = r.served.count
+ring_serves r = r.served
 
 -- the tasks that wait on <i,j>
 abbrev pub ring_waiting : Ring → Queues
-ring_waiting r i j = ring_tasks (ring_of r) (pair_at r.served.count i j)
+ring_waiting r i j = ring_tasks (ring_of r) (pair_at r.served i j)
 
 -- the length less what waits
 abbrev pub ring_vacant : Ring → ℕ → ℕ → ℕ

@@ -1,6 +1,6 @@
+ghost use Rattle.std.specs.Prelude.{◌≤◌};
 ghost use Rattle.exchange.specs.Pairs.{Numbered};
 
-use crate::markers::Markers;
 use refusal::Refusal;
 
 // The queue that one marker fills and another empties. It names one only where the two differ and are both below the number of markers
@@ -13,11 +13,12 @@ pub struct Pair {
 
 impl Pair {
     // Its number among the pairs of so many markers.
-    pub(crate) fn number(self, markers: Markers) -> Result<usize, Refusal>
-        ensures { Numbered markers.count self.sender self.receiver result }
+    pub(crate) fn number(self, markers: usize) -> Result<usize, Refusal>
+        requires { markers ≤ 16 }
+        ensures { Numbered markers self.sender self.receiver result }
     {
         let Pair { sender, receiver } = self;
-        if sender >= markers.count || receiver >= markers.count || sender == receiver {
+        if sender >= markers || receiver >= markers || sender == receiver {
             return Err(Refusal::Unknown);
         }
         let column = if receiver < sender {
@@ -25,6 +26,6 @@ impl Pair {
         } else {
             receiver - 1
         };
-        Ok(sender * (markers.count - 1) + column)
+        Ok(sender * (markers - 1) + column)
     }
 }

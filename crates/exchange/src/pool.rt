@@ -2,8 +2,8 @@ ghost use Rattle.std.specs.Prelude.{ℕ, ◌≡◌, ◌≢◌, ◌<◌, ◌≤�
 ghost use Rattle.exchange.specs.Pairs.{pairs_of, pair_at};
 ghost use Rattle.exchange.specs.Calls.{PutSays, TakeSays, LookSays};
 
+use crate::MOST_MARKERS;
 use crate::answer::Put;
-use crate::markers::Markers;
 use crate::meaning::Exchange;
 use crate::pair::Pair;
 use refusal::Refusal;
@@ -17,13 +17,15 @@ const PLACES: usize = 1024;
 #[derive(Drop)]
 pub struct Pool<'a> {
     words: &'a mut [u16],
-    served: Markers,
+    served: usize,
     held: usize,
     pairs: [u8; PLACES],
+    ghost someone: { 1 ≤ served },
+    ghost sixteen: { served ≤ 16 },
     ghost bounded: { held ≤ 1024 },
     ghost lent: { held ≤ length words.now },
-    ghost room: { 2 ≤ served.count → 1024 ≤ length words.now },
-    ghost known: { (k : ℕ) → k < held → slice_index pairs k < pairs_of served.count },
+    ghost room: { 2 ≤ served → 1024 ≤ length words.now },
+    ghost known: { (k : ℕ) → k < held → slice_index pairs k < pairs_of served },
 }
 
 impl<'a> Pool<'a> {
@@ -35,7 +37,7 @@ impl<'a> Pool<'a> {
     {
         Pool {
             words,
-            served: Markers::one(),
+            served: 1,
             held: 0,
             pairs: [0; PLACES],
         }
@@ -46,19 +48,21 @@ impl<'a> Pool<'a> {
         ensures answer { result ≡ pool_answer markers (length self.old.words.now) }
         ensures made { PoolMade markers self.old self.new result }
     {
-        let served = Markers::try_from(markers)?;
+        if !(1..=MOST_MARKERS).contains(&markers) {
+            return Err(Refusal::Range);
+        }
         if self.words.len() < PLACES {
             return Err(Refusal::Memory);
         }
         self.held = 0;
-        self.served = served;
+        self.served = markers;
         Ok(())
     }
 
     // Puts a task of the pair with number `q` at the first place that holds none.
     #[tactic(auto, using(crate::proofs::PoolSteps::two_serve))]
     fn add(&mut self, q: usize, task: u16)
-        requires pair { (q < pairs_of self.old.served.count) × (q < 240) }
+        requires pair { (q < pairs_of self.old.served) × (q < 240) }
         requires room { self.old.held < 1024 }
         ensures { pool_of self.new ≡ added_to q task (pool_of self.old) }
     {
@@ -116,12 +120,12 @@ impl<'a> Exchange for Pool<'a> {
     }
 
     fn markers(&self) -> usize {
-        self.served.count
+        self.served
     }
 
     fn put(&mut self, pair: Pair, task: u16) -> Result<Put, Refusal>
         ensures meaning { PutSays pool_serves pool_waiting pool_vacant pair.sender pair.receiver task self.old self.new result }
-        ensures memory { PoolPut (pair_at self.old.served.count pair.sender pair.receiver) task (pool_of self.old) (pool_of self.new) result }
+        ensures memory { PoolPut (pair_at self.old.served pair.sender pair.receiver) task (pool_of self.old) (pool_of self.new) result }
     {
         let q = pair.number(self.served)?;
         if task == 0 {
@@ -136,7 +140,7 @@ impl<'a> Exchange for Pool<'a> {
 
     fn take(&mut self, pair: Pair) -> Result<Option<u16>, Refusal>
         ensures meaning { TakeSays pool_serves pool_waiting pool_vacant pair.sender pair.receiver self.old self.new result }
-        ensures memory { PoolTake (pair_at self.old.served.count pair.sender pair.receiver) (pool_of self.old) (pool_of self.new) result }
+        ensures memory { PoolTake (pair_at self.old.served pair.sender pair.receiver) (pool_of self.old) (pool_of self.new) result }
     {
         let q = pair.number(self.served)?;
         // no `map`: a proof loses the pool behind a closure that changes it

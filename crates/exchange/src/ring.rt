@@ -5,9 +5,9 @@ ghost use Rattle.exchange.specs.Calls.{PutSays, TakeSays, LookSays};
 
 use crate::answer::Put;
 use crate::cursors::Cursors;
-use crate::markers::Markers;
 use crate::meaning::Exchange;
 use crate::pair::Pair;
+use crate::{MOST_MARKERS, PAIRS};
 use refusal::Refusal;
 
 // The longest ring of a pair.
@@ -18,13 +18,15 @@ const LONGEST: usize = 64;
 #[derive(Drop)]
 pub struct Ring<'a> {
     words: &'a mut [u16],
-    served: Markers,
+    served: usize,
     length: usize,
-    cursors: [Cursors; Markers::PAIRS],
+    cursors: [Cursors; PAIRS],
+    ghost someone: { 1 ≤ served },
+    ghost sixteen: { served ≤ 16 },
     ghost holds: { 1 ≤ length },
     ghost bounded: { length ≤ 64 },
-    ghost room: { pairs_of served.count * length ≤ count words.now },
-    ghost rings: { (q : ℕ) → q < pairs_of served.count → IsRing (cursors_of q cursors) (entries_of length q words.now) },
+    ghost room: { pairs_of served * length ≤ count words.now },
+    ghost rings: { (q : ℕ) → q < pairs_of served → IsRing (cursors_of q cursors) (entries_of length q words.now) },
 }
 
 impl<'a> Ring<'a> {
@@ -36,9 +38,9 @@ impl<'a> Ring<'a> {
     {
         Ring {
             words,
-            served: Markers::one(),
+            served: 1,
             length: 1,
-            cursors: [Cursors::START; Markers::PAIRS],
+            cursors: [Cursors::START; PAIRS],
         }
     }
 
@@ -47,18 +49,17 @@ impl<'a> Ring<'a> {
         ensures answer { result ≡ ring_answer markers length (count self.old.words.now) }
         ensures made { RingMade markers length self.old self.new result }
     {
-        let served = Markers::try_from(markers)?;
-        if !(1..=LONGEST).contains(&length) {
+        if !(1..=MOST_MARKERS).contains(&markers) || !(1..=LONGEST).contains(&length) {
             return Err(Refusal::Range);
         }
-        let n = served.count * (served.count - 1) * length;
+        let n = markers * (markers - 1) * length;
         if n > self.words.len() {
             return Err(Refusal::Memory);
         }
         self.words[..n].fill(0);
-        self.served = served;
+        self.served = markers;
         self.length = length;
-        self.cursors = [Cursors::START; Markers::PAIRS];
+        self.cursors = [Cursors::START; PAIRS];
         Ok(())
     }
 
@@ -95,12 +96,12 @@ impl<'a> Exchange for Ring<'a> {
     }
 
     fn markers(&self) -> usize {
-        self.served.count
+        self.served
     }
 
     fn put(&mut self, pair: Pair, task: u16) -> Result<Put, Refusal>
         ensures meaning { PutSays ring_serves ring_waiting ring_vacant pair.sender pair.receiver task self.old self.new result }
-        ensures memory { RingPut (pair_at self.old.served.count pair.sender pair.receiver) task (ring_of self.old) (ring_of self.new) result }
+        ensures memory { RingPut (pair_at self.old.served pair.sender pair.receiver) task (ring_of self.old) (ring_of self.new) result }
     {
         let q = pair.number(self.served)?;
         // this test stands in `Pool` too: a function for it would be no shorter
@@ -114,7 +115,7 @@ impl<'a> Exchange for Ring<'a> {
 
     fn take(&mut self, pair: Pair) -> Result<Option<u16>, Refusal>
         ensures meaning { TakeSays ring_serves ring_waiting ring_vacant pair.sender pair.receiver self.old self.new result }
-        ensures memory { RingTake (pair_at self.old.served.count pair.sender pair.receiver) (ring_of self.old) (ring_of self.new) result }
+        ensures memory { RingTake (pair_at self.old.served pair.sender pair.receiver) (ring_of self.old) (ring_of self.new) result }
     {
         let q = pair.number(self.served)?;
         let at = q * self.length;

@@ -16,7 +16,7 @@ pub returns : goal.returns
 returns c =
     let s = c.args.self.now in
     let h = c.in_ok-q.ensures in
-    let two : 2 ≤ s.served.count = omega (arith, h.0) in
+    let two : 2 ≤ s.served = omega (arith, h.0) in
     let after = c.add.ensures ∙ ap (λ q. added_to q c.args.task (pool_of s)) h.1 in
     let j = put_joins (pool_of s) c.args.pair.sender c.args.pair.receiver h.0 c.args.task (omega arith) (omega (arith, s.room two)) (pool_of c.add.new.self) after in
     record {

@@ -15,7 +15,7 @@ returns-in-Some c =
     let a = c.remove.ensures.after in
     let t = c.remove.ensures.task in
     let l = take_leaves (pool_of s) c.args.pair.sender c.args.pair.receiver h.0 c.in-Some.k found (omega (arith, s.bounded)) s.lent (pool_of c.remove.new.self) a in
-    let given = taken (pool_of s) (pair_at s.served.count c.args.pair.sender c.args.pair.receiver) c.in-Some.k found (omega (arith, s.bounded)) s.lent (pool_of c.remove.new.self) a in
+    let given = taken (pool_of s) (pair_at s.served c.args.pair.sender c.args.pair.receiver) c.in-Some.k found (omega (arith, s.bounded)) s.lent (pool_of c.remove.new.self) a in
     record {
       memory = (c.in-Some.k, rw (← t) at given);
       meaning = (h.0, ap (λ p. p.served) a, rw (← t) at l);
@@ -26,4 +26,4 @@ returns-in-None c =
     let s = c.args.self.now in
     let h = c.in_ok-q.ensures in
     let none = subst (λ q. newest_of q s.pairs s.held ≡ None) h.1 (sym (newest_is c.in_ok-q.q s.pairs s.held None tt tt tt c.in-None.ensures.none)) in
-    record { meaning = (h.0, nothing_newest (pair_at s.served.count c.args.pair.sender c.args.pair.receiver) s.pairs s.words.now s.held none, refl); memory = (none, refl) }
+    record { meaning = (h.0, nothing_newest (pair_at s.served c.args.pair.sender c.args.pair.receiver) s.pairs s.words.now s.held none, refl); memory = (none, refl) }

@@ -8,14 +8,17 @@ use Rattle.exchange.proofs.ring.Ring.set_up.Goals as goal
 
 pub invariant_of-self : goal.invariant_of-self
 invariant_of-self c =
-    let m = c.in_ok-served.served.count in
+    let m = c.args.markers in
     let zeros : c.fill.new.self ≡ replicate (m * (m - 1) * c.args.length) 0 = search rules in
     let some : 1 ≤ c.args.length = search rules in
     let short : c.args.length ≤ 64 = search rules in
-    let few = c.in_ok-served.served.sixteen in
+    let one : 1 ≤ m = search rules in
+    let few : m ≤ 16 = search rules in
     let fresh = fresh_rings m c.args.length c.args.self.now.words some (pairs_few m few) (omega arith) in
     let s = rw (← zeros) at fresh in
     record {
+      someone = omega arith;
+      sixteen = omega arith;
       holds = omega arith;
       bounded = omega arith;
       room = s.room;
@@ -24,12 +27,11 @@ invariant_of-self c =
 
 pub returns-clause-made : goal.returns-clause-made
 returns-clause-made c =
-    let m = c.in_ok-served.served.count in
-    let e : m ≡ c.args.markers = c.in_ok-served.ensures.0 in
-    let few = c.in_ok-served.served.sixteen in
+    let m = c.args.markers in
     let words = c.args.self.now.words in
     let some : 1 ≤ c.args.length = search rules in
+    let few : m ≤ 16 = search rules in
     let zeros : c.fill.new.self ≡ replicate (m * (m - 1) * c.args.length) 0 = search rules in (
-      rw (← e) (ap (λ ws. record { served = m; length = c.args.length; words = ws ++ drop (m * (m - 1) * c.args.length) words.now; cursors = replicate 240 at_start; lender = words.ghost_name }) zeros),
+      ap (λ ws. record { served = m; length = c.args.length; words = ws ++ drop (m * (m - 1) * c.args.length) words.now; cursors = replicate 240 at_start; lender = words.ghost_name }) zeros,
       λ i j p. rw zeros (none_wait m c.args.length c.args.self.now.words some (pairs_few m few) (pair_at m i j) (number_lt m i j p)),
     )

@@ -11,7 +11,7 @@ invariant_of-self c =
     let r = c.args.self.now in
     let n = c.in_ok-q.ensures in
     let k = put_rings r c.in_ok-q.q n.2 (omega (arith, n.3)) c.put.new.self c.put.new.entries c.args.task c.put.result c.put.ensures.put c.put.ensures.ring in
-    record { holds = r.holds; bounded = r.bounded; room = k.room; rings = k.each }
+    record { someone = r.someone; sixteen = r.sixteen; holds = r.holds; bounded = r.bounded; room = k.room; rings = k.each }
 
 pub returns : goal.returns
 returns c =

@@ -8,7 +8,7 @@ invariant_of-self c =
     let r = c.args.self.now in
     let n = c.in_ok-q.ensures in
     let k = take_rings r c.in_ok-q.q n.2 (omega (arith, n.3)) c.take.new.self c.take.new.entries c.take.result c.take.ensures.taken c.take.ensures.ring in
-    record { holds = r.holds; bounded = r.bounded; room = k.room; rings = k.each }
+    record { someone = r.someone; sixteen = r.sixteen; holds = r.holds; bounded = r.bounded; room = k.room; rings = k.each }
 
 pub returns : goal.returns
 returns c =
