@@ -9,7 +9,7 @@ use Rattle.deque.specs.Calls.{SameLender, DequePushes, DequePopsBottom}
 use Rattle.deque.specs.Laws.{ComesBack, PushedAll, none, more, GivesOldest}
 use Rattle.std.proofs.lemmas.List.{append-nil, same_from_push}
 
-comes_back : {X : Type 0} (e e' : Ends) (m m' : List X) (x : X) → Pushes e e' m m' x (Ok tt) → ComesBack e e' m m' x (Ok tt)
+pub comes_back : {X : Type 0} (e e' : Ends) (m m' : List X) (x : X) → Pushes e e' m m' x (Ok tt) → ComesBack e e' m m' x (Ok tt)
 comes_back e e' m m' x p e'' m'' (Some y) q =
     let s = same_from_push (held_in e m) (held_in e'' m'') x y (sym p.3 ∙ q.2) in
     (ap Some (sym s.1), sym s.0)
@@ -24,7 +24,7 @@ pushed_list [] b e n m none = sym (append-nil _)
 pushed_list (x ∷ xs) b e n m (more {e' = e'} {m' = m'} p rest) =
     pushed_list xs e' e m' m rest ∙ ap (λ l. l ++ xs) p.3 ∙ append_assoc (held_in b n) (x ∷ []) xs
 
-gives_oldest : {X : Type 0} (e e' : Ends) (m m' : List X) (r : Option X) → PopsBottom e e' m m' r → GivesOldest e e' m m' r
+pub gives_oldest : {X : Type 0} (e e' : Ends) (m m' : List X) (r : Option X) → PopsBottom e e' m m' r → GivesOldest e e' m m' r
 gives_oldest e e' m m' (Some x) p xs b n h =
     let l = sym (pushed_list xs b e n m h) ∙ p.2 in
     (ap (λ ys. slice_get ys 0) (sym l), ap (drop 1) (sym l))

@@ -1,5 +1,5 @@
 -- A ring whose entries are all vacant: nothing waits, and it keeps what a ring keeps. Assumes nothing.
-use Rattle.std.proofs.Common.{◌≡◌, ℕ, ◌+◌, ◌-◌, ◌*◌, ◌<◌, ◌≤◌, List, [], ◌++◌, length, drop, replicate, sym, ap, ◌∙◌, mod-eq_of_lt, arith, length-append}
+use Rattle.std.proofs.Common.{◌≡◌, ℕ, ◌+◌, ◌-◌, ◌*◌, ◌<◌, ◌≤◌, List, [], ◌++◌, drop, replicate, sym, ap, ◌∙◌, mod-eq_of_lt, arith, length-append}
 use Rattle.std.specs.Borrow.{MutBor}
 use lib.ListN.{length-replicate}
 use Rattle.std.proofs.lemmas.List.{get_or-replicate, append-nil, places, same_lists}
@@ -34,8 +34,8 @@ module _ (m len : ℕ) (words : MutBor (List ℕ)) (holds : 1 ≤ len) (few : pa
   pub none_wait : (q : ℕ) → q < pairs_of m → ring_tasks (new_ring m len words) q ≡ []
   none_wait q l = rw (vacant q l, cursors_fresh q l) (no_tasks len)
 
-  pub fresh_rings : pairs_of m * len ≤ length words.now → Rings (new_ring m len words)
-  fresh_rings room = record {
+  pub fresh_rings : Rings (new_ring m len words)
+  fresh_rings = record {
     room = rw (length-append, length-replicate) (omega arith);
     each = λ q l. rw (vacant q l, cursors_fresh q l) (vacant_ring len holds);
   }

@@ -14,7 +14,7 @@ use Rattle.exchange.specs.Calls.{Queues, Joins, Leaves, PutSays, TakeSays}
 use Rattle.exchange.specs.Entries.{entries_of, tasks, at_start, cursors_of, IsRing, FillsTail, VacatesHead, Unchanged, PairPut, PairTake}
 use Rattle.exchange.specs.RingMeaning.{RingState, ring_of, pair_cursors, ring_tasks, head_entry, tail_entry, filled_at_tail, vacated_at_head, RingPut, RingTake, ring_serves, ring_waiting, ring_vacant}
 use Rattle.exchange.proofs.Pairings.{number_same}
-use Rattle.exchange.proofs.EntryParts.{row_within, with_part, part_length, part_at, part_same, part_set, words_length, part_here, entries_other}
+use Rattle.exchange.proofs.EntryParts.{row_within, with_part, part_length, part_at, part_same, part_written, words_length, part_here, entries_other}
 
 -- every pair has its ring
 pub record Rings (s : RingState) : Type 0 where
@@ -92,13 +92,13 @@ module _ (s : RingState) (keeps : Rings s) (q : ℕ) (ql : q < pairs_of s.served
     pub is_filled : (t : ℕ) → (pair_cursors s q).tail < length entries → FillsTail (pair_cursors s q) c entries es t → with_ring ≡ filled_at_tail q t s
     is_filled t l f =
         let w : with_part s.length (q * s.length) s.words es ≡ set s.words (tail_entry s q) t =
-        ap (with_part s.length (q * s.length) s.words) f.entries ∙ part_set s.words [] s.length (q * s.length) within (pair_cursors s q).tail t (rw long at l) in
+        ap (with_part s.length (q * s.length) s.words) f.entries ∙ part_written s.words [] s.length (q * s.length) within (pair_cursors s q).tail t (rw long at l) in
         cc (w, f.cursors, long)
 
     pub is_vacated : (t : ℕ) → (pair_cursors s q).head < length entries → VacatesHead (pair_cursors s q) c entries es t → with_ring ≡ vacated_at_head q s
     is_vacated t l v =
         let w : with_part s.length (q * s.length) s.words es ≡ set s.words (head_entry s q) 0 =
-        ap (with_part s.length (q * s.length) s.words) v.entries ∙ part_set s.words [] s.length (q * s.length) within (pair_cursors s q).head 0 (rw long at l) in
+        ap (with_part s.length (q * s.length) s.words) v.entries ∙ part_written s.words [] s.length (q * s.length) within (pair_cursors s q).head 0 (rw long at l) in
         cc (w, v.cursors, long)
 
 -- rings with the same words, numbers and cursors are the same
@@ -169,10 +169,10 @@ module _ (r : Ring) (i j q : ℕ) (n : Numbered r.served i j (Ok q)) (few : q < 
   tail_within = let ring = r.rings q n.2 in rw (← whole, ring.after) (mod-lt _ (omega (arith, ring.within)))
 
   at_tail : get_or held own.tail 0 ≡ get_or r.words.now (tail_entry (ring_of r) q) 0
-  at_tail = part_at r.words.now [] r.length (q * r.length) room own.tail tail_within
+  at_tail = part_at r.words.now r.length (q * r.length) own.tail tail_within
 
   at_head : get_or held own.head 0 ≡ get_or r.words.now (head_entry (ring_of r) q) 0
-  at_head = part_at r.words.now [] r.length (q * r.length) room own.head head_within
+  at_head = part_at r.words.now r.length (q * r.length) own.head head_within
 
   -- a ring whose pair is as it was is as it was
   words_stay : es ≡ held → after.words ≡ r.words.now

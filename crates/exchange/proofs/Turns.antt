@@ -129,7 +129,7 @@ module _ (es : List ℕ) (h t len : ℕ) (long : length es ≡ len) (hl : h < le
       rw e (filled_first (turned es h) l)
 
   -- the tail's entry is vacant exactly while there is a vacancy
-  room_when_vacant : get_or es t 0 ≡ 0 → length (tasks es h) < len
+  pub room_when_vacant : get_or es t 0 ≡ 0 → length (tasks es h) < len
   room_when_vacant z =
       ⊎_elim (λ l. l)
       (λ full.
@@ -140,15 +140,15 @@ module _ (es : List ℕ) (h t len : ℕ) (long : length es ≡ len) (hl : h < le
       absurd (omega arith))
       (cases_lt (length (tasks es h)) len)
 
-  full_when_held : (get_or es t 0 ≡ 0 → ⊥) → len - length (tasks es h) ≡ 0
+  pub full_when_held : (get_or es t 0 ≡ 0 → ⊥) → len - length (tasks es h) ≡ 0
   full_when_held ne = ⊎_elim (λ l. absurd (ne (vacant_at l))) (λ g. omega arith) (cases_lt (length (tasks es h)) len)
 
   -- the head's entry is vacant exactly while nothing waits
-  none_when_vacant : get_or es h 0 ≡ 0 → tasks es h ≡ []
+  pub none_when_vacant : get_or es h 0 ≡ 0 → tasks es h ≡ []
   none_when_vacant z =
       nil_from_length (tasks es h) (⊎_elim (λ l. let some : 0 < get_or es h 0 = first_task l in absurd (omega arith)) (λ g. omega arith) (cases_lt 0 (length (tasks es h))))
 
-  some_when_held : (get_or es h 0 ≡ 0 → ⊥) → tasks es h ≡ [] → ⊥
+  pub some_when_held : (get_or es h 0 ≡ 0 → ⊥) → tasks es h ≡ [] → ⊥
   some_when_held ne none =
       let first : get_or es h 0 ≡ get_or (replicate (len - length (tasks es h)) 0) 0 0 = first_is ∙ ap (λ xs. get_or xs 0 0) (stand ∙ ap (λ xs. xs ++ replicate (len - length (tasks es h)) 0) none) in
       ne (first ∙ get_or-replicate (len - length (tasks es h)) 0 0 0 (omega (arith, ap length none)))
@@ -162,7 +162,7 @@ module _ (es : List ℕ) (h t len : ℕ) (long : length es ≡ len) (hl : h < le
         ∙ ap (λ xs. set xs (length (tasks es h)) v) (stand ∙ ap (λ k. tasks es h ++ replicate k 0) more)
         ∙ set_at (tasks es h) 0 (replicate (len - length (tasks es h) - 1) 0) v (length (tasks es h)) refl
 
-    put_tasks : tasks (set es t v) h ≡ tasks es h ++ (v ∷ [])
+    pub put_tasks : tasks (set es t v) h ≡ tasks es h ++ (v ∷ [])
     unfolding tasks
     put_tasks =
         let zeros = replicate (len - length (tasks es h) - 1) 0 in
@@ -173,12 +173,12 @@ module _ (es : List ℕ) (h t len : ℕ) (long : length es ≡ len) (hl : h < le
     put_length : length (tasks (set es t v) h) ≡ length (tasks es h) + 1
     put_length = ap length put_tasks ∙ length-append (tasks es h) (v ∷ [])
 
-    put_tail : TailAfter len (set es t v) h (following len t)
+    pub put_tail : TailAfter len (set es t v) h (following len t)
     put_tail =
         let e : h + length (tasks es h) + 1 ≡ h + length (tasks (set es t v) h) = omega (arith, put_length) in
         ap (following len) after ∙ mod-add-mod (h + length (tasks es h)) len 1 ∙ ap (λ k. k % len) e
 
-    put_together : Together len (set es t v) h
+    pub put_together : Together len (set es t v) h
     put_together =
         let e : len - length (tasks es h) - 1 ≡ len - length (tasks (set es t v) h) = omega (arith, put_length) in
         turned_put ∙ sym (append_assoc (tasks es h) (v ∷ []) (replicate (len - length (tasks es h) - 1) 0))
@@ -194,16 +194,16 @@ module _ (es : List ℕ) (h t len : ℕ) (long : length es ≡ len) (hl : h < le
     unfolding tasks
     after_take = ap filled (turned_next es h len long hl) ∙ filled_append (drop 1 (turned es h)) (0 ∷ []) ∙ append-nil (filled (drop 1 (turned es h)))
 
-    take_tasks : tasks es h ≡ get_or es h 0 ∷ tasks (set es h 0) (following len h)
+    pub take_tasks : tasks es h ≡ get_or es h 0 ∷ tasks (set es h 0) (following len h)
     unfolding tasks
     take_tasks = ap filled split_first ∙ filled_cons (get_or es h 0) (drop 1 (turned es h)) some ∙ ap (λ xs. get_or es h 0 ∷ xs) (sym after_take)
 
-    take_tail : TailAfter len (set es h 0) (following len h) t
+    pub take_tail : TailAfter len (set es h 0) (following len h) t
     take_tail =
         let e : h + length (tasks es h) ≡ h + 1 + length (tasks (set es h 0) (following len h)) = omega (arith, ap length take_tasks) in
         after ∙ ap (λ k. k % len) e ∙ sym (mod-add-mod (h + 1) len (length (tasks (set es h 0) (following len h))))
 
-    take_together : Together len (set es h 0) (following len h)
+    pub take_together : Together len (set es h 0) (following len h)
     take_together =
         let n : len - length (tasks es h) + 1 ≡ len - length (tasks (set es h 0) (following len h)) = omega (arith, ap length take_tasks, few) in
         let rest : drop 1 (turned es h) ≡ tasks (set es h 0) (following len h) ++ replicate (len - length (tasks es h)) 0 = ap (drop 1) (stand ∙ ap (λ xs. xs ++ replicate (len - length (tasks es h)) 0) take_tasks) in

@@ -12,13 +12,14 @@ pub(crate) struct Cursors {
     tail: usize,
 }
 
-// The entry after this one, round past the last of so many.
+// The entry after this one, round past the last of so many. No `%`: each put and take waits for it, and a division takes several times as long.
 fn entry_after(at: usize, length: usize) -> usize
     requires { at < length }
     ensures value { result ≡ following length at }
     ensures within { result < length }
 {
-    (at + 1) % length
+    let next = at + 1;
+    if next < length { next } else { 0 }
 }
 
 impl Cursors {

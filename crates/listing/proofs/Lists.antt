@@ -15,7 +15,7 @@ numeral_at [] i d a l = absurd (omega arith)
 numeral_at (q ∷ ps) zero d a l = (and_parts (numeral q) (all_numerals ps) a).0
 numeral_at (q ∷ ps) (suc i) d a l = numeral_at ps i d (and_parts (numeral q) (all_numerals ps) a).1 (omega arith)
 
-get_or_largest : (xs : List ℕ) (i : ℕ) → get_or xs i 0 ≤ largest xs
+pub get_or_largest : (xs : List ℕ) (i : ℕ) → get_or xs i 0 ≤ largest xs
 get_or_largest [] i = omega arith
 get_or_largest (x ∷ xs) zero = omega arith
 get_or_largest (x ∷ xs) (suc i) = let h = get_or_largest xs i in omega arith
@@ -31,7 +31,7 @@ pieces_enough : (text : List ℕ) (n : ℕ) → NumbersIn text n → n ≤ lengt
 pieces_enough [] n s = omega (arith, s.counted)
 pieces_enough (b ∷ bs) n s = omega (arith, s.counted, length-map (pieces 44 (b ∷ bs)) value_of, ap length (pieces_split 44 (b ∷ bs)))
 
-number_at : (text : List ℕ) (n i : ℕ) (d : List ℕ) → NumbersIn text n → i < n → IsNumberAt text i (get_or (parts text) i d)
+pub number_at : (text : List ℕ) (n i : ℕ) (d : List ℕ) → NumbersIn text n → i < n → IsNumberAt text i (get_or (parts text) i d)
 number_at [] n i d s l = absurd (omega (arith, s.counted))
 number_at (b ∷ bs) n i d s l =
     let ps = pieces 44 (b ∷ bs) in

@@ -11,7 +11,7 @@ use Rattle.listing.specs.declared.settings.Header.{Header}
 use Rattle.listing.specs.declared.settings.Settings.{Settings}
 use Rattle.listing.proofs.Checked.{heap_read}
 
-abbrev entry_of : ℕ → Object → ObjectEntry
+abbrev pub entry_of : ℕ → Object → ObjectEntry
 entry_of first o = record { at = o.at; len = o.len; first = first; count = length o.refs }
 
 entries_push : (first : ℕ) (os : List Object) (o : Object) → entries_from first (os ++ o ∷ []) ≡ entries_from first os ++ entry_of (first + references_in os) o ∷ []

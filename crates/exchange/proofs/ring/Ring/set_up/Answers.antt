@@ -14,7 +14,7 @@ invariant_of-self c =
     let short : c.args.length ≤ 64 = search rules in
     let one : 1 ≤ m = search rules in
     let few : m ≤ 16 = search rules in
-    let fresh = fresh_rings m c.args.length c.args.self.now.words some (pairs_few m few) (omega arith) in
+    let fresh = fresh_rings m c.args.length c.args.self.now.words some (pairs_few m few) in
     let s = rw (← zeros) at fresh in
     record {
       someone = omega arith;
